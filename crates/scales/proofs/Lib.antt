@@ -1,0 +1,4 @@
+pub mod GridValues
+pub mod GridSums
+pub mod GridTests
+pub mod GridReadings

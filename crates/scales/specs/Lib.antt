@@ -1,0 +1,9 @@
+pub mod Counts
+pub mod Grid
+pub mod Limits
+pub mod Model
+pub mod Obscuration
+pub mod Order
+pub mod Panel
+pub mod Tests
+pub mod Verdict

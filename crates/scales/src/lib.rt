@@ -1,0 +1,23 @@
+// Scales: how a reading becomes steps, and how a difference in steps becomes a margin.
+mod counts;
+mod limit;
+mod obscuration;
+mod panel;
+mod scale;
+mod verdict;
+
+pub use counts::CountMargin;
+pub use counts::Counts;
+pub use counts::CountsScale;
+pub use limit::Limit;
+pub use limit::Sense;
+pub use obscuration::Obscuration;
+pub use obscuration::ObscurationMargin;
+pub use obscuration::ObscurationScale;
+pub use panel::Panel;
+pub use panel::PanelMargin;
+pub use panel::PanelScale;
+pub use scale::Scale;
+pub use verdict::Verdict;
+pub use verdict::VerdictMargin;
+pub use verdict::VerdictScale;

@@ -74,7 +74,6 @@ module _ (A B C a b : ℕ) (P : 0 < C) (p : A * 256 ≡ a * C) (q : B * 256 ≡ 
   sum-exact true false = apart true false (ltb A B) (ltb B A) refl (less-as A B C a b P p q) (less-as B A C b a P q p)
   sum-exact false true = apart false true (ltb A B) (ltb B A) refl (less-as A B C a b P p q) (less-as B A C b a P q p)
 
-
 pub sub-exact : (x y : Float) (s t : Bool) (a b : ℕ) → HasValue x s a 256 → HasValue y t b 256 → a + b < 2 ^ 24 → Exact (a + b) (sub binary32 x y) (signed s a -ℤ signed t b)
 unfolding sub
 sub-exact nan y s t a b v w h = absurd v
@@ -89,6 +88,7 @@ pub sub-grid : (x y : Float) → T (on-grid 1048576 x) → T (on-grid 1048576 y)
 sub-grid x y h k =
     let v = grid-value 1048576 x h in
     let w = grid-value 1048576 y k in
-    let z = sub-exact x y (v .sign) (w .sign) (v .size) (w .size) (v .has) (w .has) (omega (arith, v .small, w .small)) in
-    (wider (v .size + w .size) 2097152 (sub binary32 x y) (omega (arith, v .small, w .small)) (z .0),
-     z .1 ∙ ap (λ (i : ℤ). i -ℤ signed (w .sign) (w .size)) (sym (v .is)) ∙ ap (λ (i : ℤ). grid-whole x -ℤ i) (sym (w .is)))
+    let z = sub-exact x y (v .sign) (w .sign) (v .size) (w .size) (v .has) (w .has) (omega (arith, v .small, w .small)) in (
+      wider (v .size + w .size) 2097152 (sub binary32 x y) (omega (arith, v .small, w .small)) (z .0),
+      z .1 ∙ ap (λ (i : ℤ). i -ℤ signed (w .sign) (w .size)) (sym (v .is)) ∙ ap (λ (i : ℤ). grid-whole x -ℤ i) (sym (w .is)),
+    )

@@ -96,27 +96,3 @@ lt-grid p q x y h k =
     let v = grid-value p x h in
     let w = grid-value q y k in
     lt-exact x y (v .sign) (w .sign) (v .size) (w .size) (v .has) (w .has) ∙ ap (λ (z : ℤ). ltZ z (signed (w .sign) (w .size))) (sym (v .is)) ∙ ap (ltZ (grid-whole x)) (sym (w .is))
-
--- at most is not below, the other way round
-le-flip : (s t : Bool) (A B : ℕ) → (below s A t B || level s A t B) ≡ not (below t B s A)
-le-flip false false A B = grind (arith, tells)
-le-flip false true A B = grind (arith, tells)
-le-flip true false A B = grind (arith, tells)
-le-flip true true A B = grind (arith, tells)
-
-le-not-lt : (x y : Float) (s t : Bool) (a b : ℕ) → HasValue x s a 256 → HasValue y t b 256 → le x y ≡ not (lt y x)
-unfolding le lt eq
-le-not-lt nan y s t a b v w = absurd v
-le-not-lt (inf u) y s t a b v w = absurd v
-le-not-lt (fin u m e) nan s t a b v w = absurd w
-le-not-lt (fin u m e) (inf i) s t a b v w = absurd w
-le-not-lt (fin u m e) (fin i n d) s t a b v w = le-flip u i (m * up e * down d) (n * up d * down e)
-
-leZ-not-ltZ : (a b : ℤ) → not (ltZ b a) ≡ leZ a b
-leZ-not-ltZ a b = grind (arith, ints)
-
-pub le-grid : (p q : ℕ) (x y : Float) → T (on-grid p x) → T (on-grid q y) → le x y ≡ leZ (grid-whole x) (grid-whole y)
-le-grid p q x y h k =
-    let v = grid-value p x h in
-    let w = grid-value q y k in
-    le-not-lt x y (v .sign) (w .sign) (v .size) (w .size) (v .has) (w .has) ∙ ap not (lt-grid q p y x k h) ∙ leZ-not-ltZ (grid-whole x) (grid-whole y)

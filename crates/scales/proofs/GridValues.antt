@@ -20,9 +20,10 @@ value-on-grid nan s n most v h = absurd v
 value-on-grid (inf t) s n most v h = absurd v
 value-on-grid (fin t m e) s n most v h =
     let q : m * up e * 256 / down e ≡ n = ap (λ (k : ℕ). k / down e) (v .1) ∙ mul-div-cancel n (down-pos e) in
-    let r : m * up e * 256 % down e ≡ 0 = ap (λ (k : ℕ). k % down e) (v .1) ∙ mul-mod-left n (down e) in
-    (and-i (eqb (m * up e * 256 % down e) 0) (leb (m * up e * 256 / down e) most) (eq→eqb r) (le→leb _ most (subst (λ (k : ℕ). k ≤ most) (sym q) h)),
-     ap (signed t) q ∙ ap (λ (b : Bool). signed b n) (v .0))
+    let r : m * up e * 256 % down e ≡ 0 = ap (λ (k : ℕ). k % down e) (v .1) ∙ mul-mod-left n (down e) in (
+      and-i (eqb (m * up e * 256 % down e) 0) (leb (m * up e * 256 / down e) most) (eq→eqb r) (le→leb _ most (subst (λ (k : ℕ). k ≤ most) (sym q) h)),
+      ap (signed t) q ∙ ap (λ (b : Bool). signed b n) (v .0),
+    )
 
 pub record Value (most : ℕ) (x : Float) : Type 0 where
   pub sign : Bool
@@ -64,8 +65,8 @@ divided nan s n h v = absurd v
 divided (inf t) s n h v = absurd v
 divided (fin t m e) s n h v =
     let same : round binary32 (unlike t false) (m * up e * 1) (256 * down e) ≡ round binary32 s n 256
-          = ap (λ (b : Bool). round binary32 b (m * up e * 1) (256 * down e)) (unlike-plus t ∙ v .0)
-          ∙ round-same binary32 s (m * up e * 1) (256 * down e) n 256 (mul-pos {m = 256} (lit< tt) (down-pos e)) (lit< tt) (omega (arith, v .1)) in
+    = ap (λ (b : Bool). round binary32 b (m * up e * 1) (256 * down e)) (unlike-plus t ∙ v .0)
+    ∙ round-same binary32 s (m * up e * 1) (256 * down e) n 256 (mul-pos {m = 256} (lit< tt) (down-pos e)) (lit< tt) (omega (arith, v .1)) in
     subst (λ (y : Float). HasValue y s n 256) (sym same) (round-grid s n h)
 
 pub multiplied : (x : Float) (s : Bool) (n : ℕ) → n ≤ 2 ^ 24 → HasValue x s n 256 → HasValue (mul binary32 x scale) s n 1
@@ -74,8 +75,8 @@ multiplied nan s n h v = absurd v
 multiplied (inf t) s n h v = absurd v
 multiplied (fin t m e) s n h v =
     let same : round binary32 (unlike t false) (m * up e * 256) (down e * 1) ≡ round binary32 s n 1
-          = ap (λ (b : Bool). round binary32 b (m * up e * 256) (down e * 1)) (unlike-plus t ∙ v .0)
-          ∙ round-same binary32 s (m * up e * 256) (down e * 1) n 1 (omega (arith, down-pos e)) (lit< tt) (omega (arith, v .1)) in
+    = ap (λ (b : Bool). round binary32 b (m * up e * 256) (down e * 1)) (unlike-plus t ∙ v .0)
+    ∙ round-same binary32 s (m * up e * 256) (down e * 1) n 1 (omega (arith, down-pos e)) (lit< tt) (omega (arith, v .1)) in
     subst (λ (y : Float). HasValue y s n 1) (sym same) (round-whole binary32 s n h)
 
 -- integers

@@ -8,7 +8,7 @@ mod scaling;
 pub use scaling::CountsScale;
 
 // Counts: readings are lawful from 0 to 65,535, and the margin of a test is the difference.
-#[derive(Clone, Copy, PartialEq, Eq, Debug)]
+#[derive(Clone, Copy)]
 pub struct Counts;
 
 impl Counts {

@@ -2,8 +2,11 @@
 mod counts;
 mod limit;
 mod obscuration;
+mod order;
 mod panel;
 mod scale;
+#[cfg(test)]
+mod tests;
 mod verdict;
 
 pub use counts::CountMargin;
@@ -14,6 +17,9 @@ pub use limit::Sense;
 pub use obscuration::Obscuration;
 pub use obscuration::ObscurationMargin;
 pub use obscuration::ObscurationScale;
+pub use order::compare;
+pub use order::higher;
+pub use order::lower;
 pub use panel::Panel;
 pub use panel::PanelMargin;
 pub use panel::PanelScale;

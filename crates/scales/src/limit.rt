@@ -22,6 +22,7 @@ pub struct Limit {
 impl Limit {
     // The lowest and the highest limit, in steps.
     pub const LEAST: i32 = -1_048_576;
+
     pub const MOST: i32 = 1_048_576;
 
     // The limit of so many steps; none outside the range.

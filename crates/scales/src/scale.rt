@@ -1,15 +1,14 @@
 // What every scale does.
 ghost use mathlib.Core.Path.{_≡_};
+ghost use Prim.Native.Nat.{min};
 ghost use lib.IntN.{pos, negℤ};
 ghost use lib.Signed.{leZ, ltZ};
-ghost use Rattle.std.specs.Numbers.{minZ, maxZ};
 ghost use Rattle.std.specs.Options.{mapped};
 ghost use Rattle.scales.specs.Model.{ScaleModel};
-ghost use Rattle.scales.specs.Order.{ordered, clipped};
+ghost use Rattle.scales.specs.Order.{clipped};
 ghost use Rattle.scales.specs.Tests.{tested};
 use crate::limit::Limit;
 use crate::limit::Sense;
-use std::cmp::Ordering;
 
 // A scale. A reading is unlawful or stands for a whole number, its steps; a margin stands for a whole number. The
 // model says which, and everything above speaks of the model, so that any type with this meaning is a scale.
@@ -40,30 +39,7 @@ pub trait Scale {
     fn clip(&self, margin: Self::Margin, most: u8) -> i32
         ensures { λ r. ⌜ r ≡ clipped most (model (now (self .entry)) .whole margin) ⌝ };
 
-    // How two margins compare, by their whole numbers.
-    fn compare(&self, a: Self::Margin, b: Self::Margin) -> Ordering
-        ensures { λ r. ⌜ r ≡ ordered (model (now (self .entry)) .whole a) (model (now (self .entry)) .whole b) ⌝ }
-    {
-        if self.exceeds(a, b) {
-            Ordering::Greater
-        } else if self.exceeds(b, a) {
-            Ordering::Less
-        } else {
-            Ordering::Equal
-        }
-    }
-
-    // The higher of two margins.
-    fn higher(&self, a: Self::Margin, b: Self::Margin) -> Self::Margin
-        ensures { λ r. ⌜ model (now (self .entry)) .whole r ≡ maxZ (model (now (self .entry)) .whole a) (model (now (self .entry)) .whole b) ⌝ }
-    {
-        if self.exceeds(b, a) { b } else { a }
-    }
-
-    // The lower of two margins.
-    fn lower(&self, a: Self::Margin, b: Self::Margin) -> Self::Margin
-        ensures { λ r. ⌜ model (now (self .entry)) .whole r ≡ minZ (model (now (self .entry)) .whole a) (model (now (self .entry)) .whole b) ⌝ }
-    {
-        if self.exceeds(a, b) { b } else { a }
-    }
+    // How far two margins can lie apart whose differences in steps lie at most so far apart; at most 4,294,967,295 is told.
+    fn reach(&self, apart: u32) -> u32
+        ensures { λ r. ⌜ r ≡ min (model (now (self .entry)) .reach apart) 4294967295 ⌝ };
 }

@@ -43,4 +43,8 @@ pub impl Scale for Counts as CountsScale {
         let most = most as i32;
         margin.value.clamp(-most, most)
     }
+
+    fn reach(&self, apart: u32) -> u32 {
+        apart
+    }
 }

@@ -2,8 +2,8 @@
 ghost use mathlib.Core.Path.{_≡_};
 ghost use Prim.Native.Nat.{_≤_};
 ghost use lib.Dec.{T};
-ghost use lib.IntN.{natAbs, negℤ, _-ℤ_, pos};
-ghost use lib.Signed.{leZ, ltZ};
+ghost use lib.IntN.{natAbs, negℤ, _-ℤ_};
+ghost use lib.Signed.{ltZ};
 ghost use Rattle.scales.specs.Grid.{on-grid, grid-whole, grid-steps};
 use crate::limit::Limit;
 use std::num::saturating_f32_to_i32;
@@ -15,6 +15,7 @@ const STEPS: f32 = 256.0;
 pub fn from_steps(steps: i32) -> f32
     requires { ⌜ natAbs steps ≤ 1048576 ⌝ }
     ensures on { λ r. ⌜ T (on-grid 1048576 r) ⌝ }
+    ensures among_margins { λ r. ⌜ T (on-grid 2097152 r) ⌝ }
     ensures is { λ r. ⌜ grid-whole r ≡ steps ⌝ }
 {
     steps as f32 / STEPS
@@ -68,10 +69,4 @@ pub fn is_below(a: f32, b: f32) -> bool
     ensures { λ r. ⌜ (T (on-grid 2097152 a) → T (on-grid 2097152 b) → r ≡ ltZ (grid-whole a) (grid-whole b)) ⌝ }
 {
     a < b
-}
-
-pub fn is_at_least_nought(a: f32) -> bool
-    ensures { λ r. ⌜ (T (on-grid 2097152 a) → r ≡ leZ (pos 0) (grid-whole a)) ⌝ }
-{
-    0.0 <= a
 }

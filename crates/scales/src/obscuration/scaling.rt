@@ -38,11 +38,15 @@ pub impl Scale for Obscuration as ObscurationScale {
     }
 
     fn holds(&self, margin: ObscurationMargin) -> bool {
-        grid::is_at_least_nought(margin.value)
+        !grid::is_below(margin.value, grid::from_steps(0))
     }
 
     fn clip(&self, margin: ObscurationMargin, most: u8) -> i32 {
         let most = most as i32;
         grid::to_steps(margin.value).clamp(-most, most)
+    }
+
+    fn reach(&self, apart: u32) -> u32 {
+        apart
     }
 }

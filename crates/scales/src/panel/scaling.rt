@@ -38,4 +38,8 @@ pub impl<S: Scale> Scale for Panel<S> as PanelScale {
         let most = most as i32;
         margin.value.clamp(-most, most)
     }
+
+    fn reach(&self, apart: u32) -> u32 {
+        self.lower.reach(apart).min(2 * PanelMargin::MOST as u32)
+    }
 }

@@ -45,4 +45,8 @@ pub impl<S: Scale> Scale for Verdict<S> as VerdictScale {
         let most = most.min(1) as i32;
         if self.holds(margin) { most } else { -most }
     }
+
+    fn reach(&self, apart: u32) -> u32 {
+        if apart == 0 { 0 } else { 2 }
+    }
 }

@@ -1,0 +1,14 @@
+pub mod Kept
+pub mod KthLaws
+pub mod Kths
+pub mod Margins
+pub mod Ordered
+pub mod Pairwise
+pub mod Picks
+pub mod Powers
+pub mod Ranks
+pub mod Reaching
+pub mod Selects
+pub mod Shifts
+pub mod Splices
+pub mod Tallies

@@ -3,6 +3,8 @@ mod cells;
 mod run;
 mod select;
 mod share;
+#[cfg(test)]
+mod tests;
 
 pub use run::OrderedRun;
 pub use select::pick;

@@ -12,17 +12,3 @@ pub fn rank(share: u16, width: u16) -> u32
 {
     (share as u32 * width as u32).div_ceil(WHOLE_SHARE)
 }
-
-#[cfg(test)]
-mod tests {
-    use super::rank;
-    use std::test::Fail;
-    use std::test::check_eq;
-
-    #[test]
-    fn a_share_is_rounded_up() -> Result<(), Fail> {
-        check_eq(rank(950, 1_440), 1_368)?;
-        check_eq(rank(951, 1_440), 1_370)?;
-        check_eq(rank(501, 4), 3)
-    }
-}

@@ -26,4 +26,6 @@ pub use panel::PanelScale;
 pub use scale::Scale;
 pub use verdict::Verdict;
 pub use verdict::VerdictMargin;
+pub use verdict::VerdictMarginDebug;
+pub use verdict::VerdictMarginPartialEq;
 pub use verdict::VerdictScale;

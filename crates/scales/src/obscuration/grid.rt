@@ -1,7 +1,8 @@
 // Floats by their whole number of 256ths. Each float operation stands alone here, with the fact that it is exact.
 ghost use mathlib.Core.Path.{_≡_};
 ghost use Prim.Native.Nat.{_≤_};
-ghost use lib.Dec.{T};
+ghost use lib.Dec.{T, leb};
+ghost use lib.Ieee.{eq};
 ghost use lib.IntN.{natAbs, negℤ, _-ℤ_};
 ghost use lib.Signed.{ltZ};
 ghost use Rattle.scales.specs.Grid.{on-grid, grid-whole, grid-steps};
@@ -28,15 +29,29 @@ pub fn to_steps(value: f32) -> i32
     saturating_f32_to_i32(value * STEPS)
 }
 
-// The steps of a reading; none where they are no whole number or too many. The way there and back tells.
+// Whether a reading or a limit may have so many steps.
+fn in_range(steps: i32) -> bool
+    ensures { λ r. ⌜ r ≡ leb (natAbs steps) 1048576 ⌝ }
+{
+    Limit::LEAST <= steps && steps <= Limit::MOST
+}
+
+// Whether two floats are equal; either zero is nought.
+fn is_same(a: f32, b: f32) -> bool
+    ensures { λ r. ⌜ r ≡ eq a b ⌝ }
+{
+    a == b
+}
+
+// The steps of a reading; none where they are no whole number or out of range. The way there and back tells.
 fn steps_of(reading: f32) -> Option<i32>
     ensures { λ r. ⌜ r ≡ grid-steps 1048576 reading ⌝ }
 {
     let steps = to_steps(reading);
-    if steps < Limit::LEAST || Limit::MOST < steps {
+    if !in_range(steps) {
         return None;
     }
-    if from_steps(steps) == reading {
+    if is_same(from_steps(steps), reading) {
         Some(steps)
     } else {
         None

@@ -5,8 +5,8 @@ use mathlib.Core.List.{List, [], _∷_, map}
 use Prim.Native.Nat.{ℕ, zero, suc, _-_, _≤_, _<_}
 use native.Mathlib.Omega.{arith}
 use lib.IntN.{ℤ, pos}
-use lib.ListN.{length, getD}
-use Rattle.std.proofs.shelf.Lists.{length-map, getD-map}
+use lib.ListN.{length, take, getD}
+use Rattle.std.proofs.shelf.Lists.{length-map, getD-map, getD-take}
 use Rattle.std.specs.Options.{mapped}
 use Rattle.std.specs.declared.option.Option.the-variants.{Some, None}
 use Rattle.runs.specs.Highest.{highest}
@@ -29,6 +29,10 @@ module _ {M : Type 0} where
       let e : suc (suc k) - 1 ≡ suc k = omega arith in
       let f : suc k - 1 ≡ k = omega arith in
       in-place-at (suc k) ms d (omega arith) (omega arith) ∙ ap (λ i. Some (getD ms i d)) f ∙ ap (λ i. Some (getD (m ∷ ms) i d)) (sym e)
+
+  -- what was read at the K-th place of the cells stands at that place of the first used
+  pub read-in-place : (xs : List M) (used k i : ℕ) (x : M) → x ≡ getD xs i x → i ≡ k - 1 → 0 < k → k ≤ used → x ≡ getD (take used xs) (k - 1) x
+  read-in-place xs used k i x read at lo hi = read ∙ ap (λ n. getD xs n x) at ∙ sym (getD-take used xs (k - 1) x (omega arith))
 
   -- outside there is neither
   pub pick-out : (whole : M → ℤ) (k : ℕ) (ms : List M) → (k ≡ 0) ⊎ (length ms < k) → mapped whole None ≡ highest k (map whole ms)

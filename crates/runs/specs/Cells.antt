@@ -28,7 +28,7 @@ pub record PutIn {M : Type 0} (whole : M → ℤ) (used : ℕ) (before after : L
   pub behind : drop (used + 1) after ≡ drop (used + 1) before
   pub keeps : put ≡ true → InOrder whole used before → Added (whole m) (wholes whole used before) (wholes whole (used + 1) after)
 
--- one margin of the whole number of m was to be taken out of the first `used` of the cells
+-- one margin of the whole number of m was to be taken out of the first `used` of the cells; where none was found nothing changes
 pub record TakenOut {M : Type 0} (whole : M → ℤ) (used : ℕ) (before after : List M) (m : M) (found : Bool) : Type 0 where
   pub some : hit found ≤ used
   pub long : length after ≡ length before
@@ -43,7 +43,8 @@ pub record FoundAt {M : Type 0} (whole : M → ℤ) (used : ℕ) (cells : List M
   pub place : Descending (wholes whole used cells) → at ≡ above (whole m) (wholes whole used cells)
   pub same : getD (wholes whole used cells) at (pos 0) ≡ whole m
 
--- one margin of the whole number of old was to leave the first `used` of the cells, and new to come in
+-- one margin of the whole number of old was to leave the first `used` of the cells, and new to come in; where none was found
+-- nothing changes, and new stays out
 pub record Replaced {M : Type 0} (whole : M → ℤ) (used : ℕ) (before after : List M) (old new : M) (found : Bool) : Type 0 where
   pub long : length after ≡ length before
   pub refused : found ≡ false → after ≡ before

@@ -14,6 +14,7 @@ abbrev pub Descending : List ℤ → Type 0
 Descending [] = Unit {0}
 Descending (x ∷ xs) = All (λ y. y ≤ℤ x) xs × Descending xs
 
+-- whether two whole numbers are the same
 abbrev pub eqZ : ℤ → ℤ → Bool
 eqZ (pos a) (pos b) = eqb a b
 eqZ (pos a) (negsuc b) = false

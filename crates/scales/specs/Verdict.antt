@@ -14,9 +14,13 @@ abbrev pub verdict-whole : VerdictMargin → ℤ
 verdict-whole Yes = pos 1
 verdict-whole No = negsuc 0
 
--- +1, yes, where the lower mark holds, that is where it is 0 or more; -1, no, elsewhere
+-- yes, +1, of a mark that holds, that is of one that is 0 or more; no, -1, of any other
+abbrev pub verdict-of : ℤ → ℤ
+verdict-of m = cond (leZ (pos 0) m) (pos 1) (negsuc 0)
+
+-- the verdict of the lower mark
 abbrev pub verdict-mark : (ℤ → ℤ) → ℤ → ℤ
-verdict-mark mark z = cond (leZ (pos 0) (mark z)) (pos 1) (negsuc 0)
+verdict-mark mark z = verdict-of (mark z)
 
 -- a verdict stays where nothing moves, and else turns by 2 at most
 abbrev pub verdict-reach : ℕ → ℕ

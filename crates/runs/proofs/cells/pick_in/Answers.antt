@@ -5,8 +5,8 @@ use native.Mathlib.Omega.{arith}
 use lib.ListN.{length, take, getD}
 use Rattle.std.specs.declared.option.Option.the-variants.{Some}
 use Rattle.std.specs.Options.{mapped}
-use Rattle.std.proofs.shelf.Lists.{length-take, getD-take}
-use Rattle.runs.proofs.Picks.{in-place-out, in-place-at, pick-out, pick-at}
+use Rattle.std.proofs.shelf.Lists.{length-take}
+use Rattle.runs.proofs.Picks.{in-place-out, in-place-at, read-in-place, pick-out, pick-at}
 use Rattle.runs.proofs.KthLaws.{kth-highest}
 use Rattle.runs.proofs.cells.pick_in.Needs as need
 
@@ -25,7 +25,7 @@ returns-else-k-cells g c =
     let ms = take (c .args .used) (c .args .cells .now) in
     let long = length-take (c .args .used) (c .args .cells .now) in
     let in′ = c .if-k-cells .left in
-    let read : x ≡ getD ms (k - 1) x = c .index-cells-k .is ∙ sym (getD-take (c .args .used) (c .args .cells .now) (k - 1) x (omega arith)) in
+    let read : x ≡ getD ms (k - 1) x = read-in-place (c .args .cells .now) (c .args .used) k _ x (c .index-cells-k .is) (omega arith) (omega arith) (omega arith) in
     record {
       stands = ap Some read ∙ sym (in-place-at k ms x (omega arith) (omega arith));
       highest = λ whole o. kth-highest k _ _ (ap (λ y. mapped whole (Some y)) read ∙ pick-at whole k ms x (omega arith) (omega arith) (o .falls));

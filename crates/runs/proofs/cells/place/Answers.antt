@@ -3,6 +3,7 @@ use Prim.Native.Nat.{_-_, _+_, _^_, _<_}
 use native.Mathlib.Omega.{arith}
 use lib.ListN.{length}
 use Rattle.std.proofs.shelf.Bits.{pow-pos}
+use Rattle.std.proofs.shelf.Signed.{ints}
 use Rattle.runs.proofs.Margins.{place-before, place-here, above-le}
 use Rattle.runs.proofs.Powers.{pow-half, stays-in, narrows}
 use Rattle.runs.proofs.cells.place.Needs as need
@@ -49,7 +50,7 @@ loop-level-again g c =
       omega arith,
       stays-in hit base p (2 ^ c .loop-level .level) _ (length ms) q (omega arith) (c .jump-base .ensures),
       λ d. narrows hit _ base p (2 ^ c .loop-level .level) _ q (pow-pos lower) (c .jump-base .ensures)
-          (λ e. omega (arith, at, place-before whole ms z i _ within (c .index-margins-base .is) (sym e ∙ c .exceeds-hit .ensures) d))
-          (λ e. omega (arith, at, place-here whole ms z i _ within (c .index-margins-base .is) (sym e ∙ c .exceeds-hit .ensures) d))
+          (λ e. let told = sym e ∙ c .exceeds-hit .ensures in omega (arith, at, place-before whole ms z i _ within (c .index-margins-base .is) (omega (arith, ints, told)) d))
+          (λ e. let told = sym e ∙ c .exceeds-hit .ensures in omega (arith, at, place-here whole ms z i _ within (c .index-margins-base .is) (omega (arith, ints, told)) d))
           (c .loop-level .inv .2 d),
     )

@@ -17,7 +17,7 @@ returns-then-k-reaching g c =
     let ms = c .args .margins .now in
     let ws = map whole ms in
     let x = c .x-item .result in
-    let yes = kth-yes (c .args .k) ws (whole x) (c .exceeding .result) (c .reaching .result) (c .exceeding .ensures) (c .reaching .ensures) (c .if-exceeding-k .taken) (c .if-k-reaching .taken) in
+    let yes = kth-yes (c .args .k) ws (whole x) (c .exceeding .result) (c .reaching .result) (c .exceeding .ensures) (c .reaching .ensures) (omega arith) (omega arith) in
     let is = sym (found-here whole ms (is-kth (c .args .k) ws) (c .loop-x .x-index) x (c .loop-x-test .taken) (c .x-item .is) yes) ∙ c .loop-x .inv .1 in
     kth-highest (c .args .k) ws _ is
 
@@ -28,8 +28,8 @@ loop-x-again g c =
     let ws = map whole ms in
     let x = c .x-item .result in
     let no : is-kth (c .args .k) ws (whole x) ≡ false = elim (c .else-exceeding-k .came) [
-      | else-exceeding-k·by·then-exceeding-k·else-k-reaching w ↦ kth-few (c .args .k) ws (whole x) (w .reaching .result) (w .reaching .ensures) (w .if-k-reaching .left)
-      | else-exceeding-k·by·else-exceeding-k w ↦ kth-many (c .args .k) ws (whole x) (c .exceeding .result) (c .exceeding .ensures) (w .if-exceeding-k .left)
+      | else-exceeding-k·by·then-exceeding-k·else-k-reaching w ↦ kth-few (c .args .k) ws (whole x) (w .reaching .result) (w .reaching .ensures) (omega (arith, w .if-k-reaching .left))
+      | else-exceeding-k·by·else-exceeding-k w ↦ kth-many (c .args .k) ws (whole x) (c .exceeding .result) (c .exceeding .ensures) (omega (arith, w .if-exceeding-k .left))
     ] in
     (omega arith, found-later whole ms (is-kth (c .args .k) ws) (c .loop-x .x-index) x (c .loop-x-test .taken) (c .x-item .is) no ∙ c .loop-x .inv .1)
 

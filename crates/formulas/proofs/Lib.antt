@@ -1,0 +1,5 @@
+pub mod Meanings
+pub mod Near
+pub mod Opposites
+pub mod Stretches
+pub mod Verdicts

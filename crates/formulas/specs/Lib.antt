@@ -1,0 +1,4 @@
+pub mod Formula
+pub mod Laws
+pub mod Margin
+pub mod Meaning

@@ -13,7 +13,7 @@ use std::num::saturating_f32_to_i32;
 const STEPS: f32 = 256.0;
 
 // The float of so many steps.
-pub fn from_steps(steps: i32) -> f32
+pub(super) fn from_steps(steps: i32) -> f32
     requires { ⌜ natAbs steps ≤ 1048576 ⌝ }
     ensures on { λ r. ⌜ T (on-grid 1048576 r) ⌝ }
     ensures among_margins { λ r. ⌜ T (on-grid 2097152 r) ⌝ }
@@ -23,7 +23,7 @@ pub fn from_steps(steps: i32) -> f32
 }
 
 // The steps of a float that is a whole number of them.
-pub fn to_steps(value: f32) -> i32
+pub(super) fn to_steps(value: f32) -> i32
     ensures { λ r. ⌜ (T (on-grid 2097152 value) → r ≡ grid-whole value) ⌝ }
 {
     saturating_f32_to_i32(value * STEPS)
@@ -59,28 +59,28 @@ fn steps_of(reading: f32) -> Option<i32>
 }
 
 // Whether a reading has steps.
-pub fn is_lawful(reading: f32) -> bool
+pub(super) fn is_lawful(reading: f32) -> bool
     ensures { λ r. ⌜ r ≡ on-grid 1048576 reading ⌝ }
 {
     steps_of(reading).is_some()
 }
 
 // The float difference of two readings or limits, which is exact.
-pub fn minus(a: f32, b: f32) -> f32
+pub(super) fn minus(a: f32, b: f32) -> f32
     ensures on { λ r. ⌜ (T (on-grid 1048576 a) → T (on-grid 1048576 b) → T (on-grid 2097152 r)) ⌝ }
     ensures is { λ r. ⌜ (T (on-grid 1048576 a) → T (on-grid 1048576 b) → grid-whole r ≡ grid-whole a -ℤ grid-whole b) ⌝ }
 {
     a - b
 }
 
-pub fn negated(a: f32) -> f32
+pub(super) fn negated(a: f32) -> f32
     ensures on { λ r. ⌜ (T (on-grid 2097152 a) → T (on-grid 2097152 r)) ⌝ }
     ensures is { λ r. ⌜ grid-whole r ≡ negℤ (grid-whole a) ⌝ }
 {
     -a
 }
 
-pub fn is_below(a: f32, b: f32) -> bool
+pub(super) fn is_below(a: f32, b: f32) -> bool
     ensures { λ r. ⌜ (T (on-grid 2097152 a) → T (on-grid 2097152 b) → r ≡ ltZ (grid-whole a) (grid-whole b)) ⌝ }
 {
     a < b

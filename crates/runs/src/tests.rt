@@ -22,7 +22,11 @@ fn third_of<S: Scale>(scale: &S, margins: [S::Margin; 4]) -> Option<S::Margin> {
     third_in(scale, margins, &mut cells)
 }
 
-fn third_in<S: Scale>(scale: &S, margins: [S::Margin; 4], cells: &mut [S::Margin]) -> Option<S::Margin> {
+fn third_in<S: Scale>(
+    scale: &S,
+    margins: [S::Margin; 4],
+    cells: &mut [S::Margin],
+) -> Option<S::Margin> {
     let mut run = OrderedRun::new(cells);
     for i in 0..3usize {
         let _ = run.put(scale, margins[i]);
@@ -33,7 +37,11 @@ fn third_in<S: Scale>(scale: &S, margins: [S::Margin; 4], cells: &mut [S::Margin
     run.pick(3)
 }
 
-fn tests<S: Scale>(scale: &S, readings: [S::Reading; 4], limit: Limit) -> Result<[S::Margin; 4], u8> {
+fn tests<S: Scale>(
+    scale: &S,
+    readings: [S::Reading; 4],
+    limit: Limit,
+) -> Result<[S::Margin; 4], u8> {
     let a = scale.test(readings[0], Sense::AtLeast, limit).ok_or(0u8)?;
     let b = scale.test(readings[1], Sense::AtLeast, limit).ok_or(1u8)?;
     let c = scale.test(readings[2], Sense::AtLeast, limit).ok_or(2u8)?;
@@ -51,8 +59,14 @@ fn three_scales() -> Result<(), Fail> {
     let obscuration = tests(&Obscuration, [0.25, 4.0, 1.5, 0.5], limit)?;
     check(third_of(&Obscuration, obscuration).ok_or(3u8)?.value() == 0.21875)?;
     let verdicts = tests(&Verdict::over(Counts), [5, 12, 9, 8], limit)?;
-    check_eq(third_of(&Verdict::over(Counts), verdicts).ok_or(4u8)?, VerdictMargin::No)?;
-    check_eq(pick(&Verdict::over(Counts), &verdicts, 3).ok_or(5u8)?, VerdictMargin::Yes)
+    check_eq(
+        third_of(&Verdict::over(Counts), verdicts).ok_or(4u8)?,
+        VerdictMargin::No,
+    )?;
+    check_eq(
+        pick(&Verdict::over(Counts), &verdicts, 3).ok_or(5u8)?,
+        VerdictMargin::Yes,
+    )
 }
 
 #[test]

@@ -1,21 +1,34 @@
 // Why the program stops short.
+use rules::RuleFault;
+use rules::RuleFaultDebug;
+use rules::RuleFaultDisplay;
 use std::alloc::AllocError;
 use std::alloc::Refused;
 use std::fmt;
 use std::io;
 
-#[derive(Clone, Copy, PartialEq, Eq, Debug)]
+#[derive(Clone, Copy, Debug)]
 pub enum Failure {
-    // A limit lies outside -1,048,576 to 1,048,576 steps.
-    Limit,
+    // A rule is refused.
+    Rule(RuleFault),
+    // A rule is not of the kind that the example works out.
+    Kind,
+    // A head has no reading.
+    NoReading,
     // A reading is unlawful on its scale.
-    Reading,
-    // There are fewer margins than the rule looks at.
-    Margins,
+    Unlawful,
+    // The record has fewer polls than the rule looks at.
+    TooFewPolls,
     // There is no memory left.
     Memory,
     // The text cannot be written.
     Output,
+}
+
+pub impl From<RuleFault> for Failure as FailureFromRule {
+    fn from(fault: RuleFault) -> Failure {
+        Failure::Rule(fault)
+    }
 }
 
 pub impl From<AllocError> for Failure as FailureFromAlloc {
@@ -38,13 +51,14 @@ pub impl From<io::Error> for Failure as FailureFromIo {
 
 pub impl fmt::Display for Failure as FailureDisplay {
     fn fmt<W: fmt::Write>(&self, f: &mut fmt::Formatter<W>) -> fmt::Result {
-        let words = match self {
-            Failure::Limit => "a limit lies outside -1048576 to 1048576 steps",
-            Failure::Reading => "a reading is unlawful on its scale",
-            Failure::Margins => "there are fewer margins than the rule looks at",
-            Failure::Memory => "there is no memory left",
-            Failure::Output => "the text cannot be written",
-        };
-        f.write_str(words)
+        match *self {
+            Failure::Rule(fault) => write!(f, "{fault}"),
+            Failure::Kind => write!(f, "the rule is of another kind"),
+            Failure::NoReading => write!(f, "a head has no reading"),
+            Failure::Unlawful => write!(f, "a reading is unlawful on its scale"),
+            Failure::TooFewPolls => write!(f, "the record has fewer polls than the rule looks at"),
+            Failure::Memory => write!(f, "there is no memory left"),
+            Failure::Output => write!(f, "the text cannot be written"),
+        }
     }
 }

@@ -1,6 +1,7 @@
 // soak: the margins of rules over a soak of the detector heads.
 mod example;
 mod failure;
+mod written;
 
 use failure::Failure;
 use failure::FailureDisplay;

@@ -1,0 +1,3 @@
+-- What the contracts of refusals cite. Assumes nothing.
+pub mod Checks
+pub mod Texts

@@ -6,19 +6,22 @@ use std::alloc::AllocError;
 use std::alloc::Refused;
 use std::fmt;
 use std::io;
+use watches::WatchFault;
+use watches::WatchFaultDebug;
+use watches::WatchFaultDisplay;
 
 #[derive(Clone, Copy, Debug)]
 pub enum Failure {
     // A rule is refused.
     Rule(RuleFault),
-    // A rule is not of the kind that the example works out.
-    Kind,
-    // A head has no reading.
+    // A call of a watch, or a survey, is refused.
+    Watch(WatchFault),
+    // A limit is out of range.
+    Limit,
+    // A zone names a head that there is not.
+    Zone,
+    // The record has no lawful reading to begin with.
     NoReading,
-    // A reading is unlawful on its scale.
-    Unlawful,
-    // The record has fewer polls than the rule looks at.
-    TooFewPolls,
     // There is no memory left.
     Memory,
     // The text cannot be written.
@@ -28,6 +31,12 @@ pub enum Failure {
 pub impl From<RuleFault> for Failure as FailureFromRule {
     fn from(fault: RuleFault) -> Failure {
         Failure::Rule(fault)
+    }
+}
+
+pub impl From<WatchFault> for Failure as FailureFromWatch {
+    fn from(fault: WatchFault) -> Failure {
+        Failure::Watch(fault)
     }
 }
 
@@ -53,10 +62,10 @@ pub impl fmt::Display for Failure as FailureDisplay {
     fn fmt<W: fmt::Write>(&self, f: &mut fmt::Formatter<W>) -> fmt::Result {
         match *self {
             Failure::Rule(fault) => write!(f, "{fault}"),
-            Failure::Kind => write!(f, "the rule is of another kind"),
-            Failure::NoReading => write!(f, "a head has no reading"),
-            Failure::Unlawful => write!(f, "a reading is unlawful on its scale"),
-            Failure::TooFewPolls => write!(f, "the record has fewer polls than the rule looks at"),
+            Failure::Watch(fault) => write!(f, "{fault}"),
+            Failure::Limit => write!(f, "a limit is out of range"),
+            Failure::Zone => write!(f, "a zone names a head that there is not"),
+            Failure::NoReading => write!(f, "the record has no lawful reading to begin with"),
             Failure::Memory => write!(f, "there is no memory left"),
             Failure::Output => write!(f, "the text cannot be written"),
         }

@@ -6,7 +6,7 @@ use mathlib.Core.Logic.{⊎-elim}
 use Prim.Native.Nat.{ℕ, zero, suc, _+_, _-_, _≤_, _<_}
 use native.Mathlib.Omega.{arith}
 use lib.IntN.{ℤ, pos}
-use Rattle.std.specs.Options.{valueOr}
+use Rattle.std.specs.Options.{valueOr, orOther}
 use Rattle.std.specs.declared.option.Option.{Option}
 use Rattle.std.specs.declared.option.Option.the-variants.{Some, None}
 use Rattle.std.specs.declared.result.Result.the-variants.{Ok, Err}
@@ -18,7 +18,7 @@ use Rattle.rules.specs.declared.rule.Rule.{Rule}
 use Rattle.scales.specs.Model.{ScaleModel}
 use Rattle.layout.specs.Shape.{shape}
 use Rattle.layout.specs.Steps.{row-at, steps-of, Lit}
-use Rattle.watches.specs.Readings.{reads-head, step-fault, reading-fault, or-else, first-fault, row-fault, steps-at, row}
+use Rattle.watches.specs.Readings.{reads-head, step-fault, reading-fault, first-fault, row-fault, steps-at, row}
 use Rattle.watches.specs.declared.faults.WatchFault.{WatchFault}
 use Rattle.watches.proofs.HeadOrder.{First}
 
@@ -38,7 +38,7 @@ module _ (read : ℕ → Bool) (fault : ℕ → Option WatchFault) where
   pub none-yet : (n : ℕ) → n ≡ 0 → first-fault read fault n ≡ None
   none-yet n e = ap (first-fault read fault) e ∙ none-below
 
-  next : (n : ℕ) → first-fault read fault (suc n) ≡ or-else (first-fault read fault n) (cond (read n) (fault n) None)
+  next : (n : ℕ) → first-fault read fault (suc n) ≡ orOther (first-fault read fault n) (cond (read n) (fault n) None)
   unfolding first-fault
   next n = refl
 
@@ -46,7 +46,7 @@ module _ (read : ℕ → Bool) (fault : ℕ → Option WatchFault) where
   stays e n zero h = let z : 0 + n ≡ n = omega arith in ap (first-fault read fault) z ∙ h
   stays e n (suc k) h =
       let z : suc k + n ≡ suc (k + n) = omega arith in
-      ap (first-fault read fault) z ∙ next (k + n) ∙ ap (λ o. or-else o (cond (read (k + n)) (fault (k + n)) None)) (stays e n k h)
+      ap (first-fault read fault) z ∙ next (k + n) ∙ ap (λ o. orOther o (cond (read (k + n)) (fault (k + n)) None)) (stays e n k h)
 
   -- heads that are not read are passed over
   skips : (n k : ℕ) → first-fault read fault n ≡ None → ((h : ℕ) → n ≤ h → h < k + n → read h ≡ false) → first-fault read fault (k + n) ≡ None
@@ -54,7 +54,7 @@ module _ (read : ℕ → Bool) (fault : ℕ → Option WatchFault) where
   skips n (suc k) h unread =
       let z : suc k + n ≡ suc (k + n) = omega arith in
       ap (first-fault read fault) z ∙ next (k + n)
-      ∙ ap (λ o. or-else o (cond (read (k + n)) (fault (k + n)) None)) (skips n k h (λ g lo hi. unread g lo (omega arith)))
+      ∙ ap (λ o. orOther o (cond (read (k + n)) (fault (k + n)) None)) (skips n k h (λ g lo hi. unread g lo (omega arith)))
       ∙ cond-false (read (k + n)) (fault (k + n)) None (unread (k + n) (omega arith) (omega arith))
 
   module _ (heads : List ℕ) (same : (h : ℕ) → among h heads ≡ read h) (from : ℕ) (none : first-fault read fault from ≡ None) where
@@ -67,7 +67,7 @@ module _ (read : ℕ → Bool) (fault : ℕ → Option WatchFault) where
           (λ h lo hi. ⊎-elim (λ (y : read h ≡ true). let late = f .least h (same h ∙ y) lo in absurd (omega (arith, f .late))) (λ (n : read h ≡ false). n) (cases-bool (read h)))
 
       here : first-fault read fault (suc g) ≡ fault g
-      here = next g ∙ ap (λ o. or-else o (cond (read g) (fault g) None)) before ∙ cond-true (read g) (fault g) None (sym (same g) ∙ f .is-in)
+      here = next g ∙ ap (λ o. orOther o (cond (read g) (fault g) None)) before ∙ cond-true (read g) (fault g) None (sym (same g) ∙ f .is-in)
 
       pub fault-here : (e : WatchFault) → g < 64 → fault g ≡ Some e → first-fault read fault 64 ≡ Some e
       fault-here e lt bad =
@@ -92,7 +92,7 @@ module _ (read : ℕ → Bool) (fault : ℕ → Option WatchFault) where
       (λ (q : h ≡ n → ⊥). no-fault-at n h (both .0) (omega arith) y)
       (cases-eq h n)
     where
-      parts : (a b : Option WatchFault) → or-else a b ≡ None → (a ≡ None) × (b ≡ None)
+      parts : (a b : Option WatchFault) → orOther a b ≡ None → (a ≡ None) × (b ≡ None)
       parts None b e = (refl, e)
       parts (Some f) b e = let z : _≡_ {A = ℕ} 0 1 = cc in absurd (omega arith)
 

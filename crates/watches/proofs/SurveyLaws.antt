@@ -26,7 +26,8 @@ use Rattle.layout.specs.Rows.{Row, signal, cells-of, Holds, Advanced, Latest}
 use Rattle.layout.specs.Steps.{row-at}
 use Rattle.layout.proofs.Holdings.{holds-none}
 use Rattle.layout.proofs.Shapes.{formed}
-use Rattle.watches.specs.Readings.{reads-head, or-else, row-fault, steps-at, row}
+use Rattle.std.specs.Options.{orOther}
+use Rattle.watches.specs.Readings.{reads-head, row-fault, steps-at, row}
 use Rattle.watches.specs.Surveys.{polls-fault, rows-from, or-fault, survey-fault, Taken, Surveyed}
 use Rattle.watches.specs.declared.faults.WatchFault.{WatchFault}
 use Rattle.watches.specs.declared.faults.WatchFault.the-variants.{TooFewCells, PastTheEnd}
@@ -38,16 +39,16 @@ module _ {Reading Margin : Type 0} (sm : ScaleModel Reading Margin) (rule : Rule
   unfolding polls-fault
   no-polls = refl
 
-  next : (n : ℕ) → polls-fault sm rule rm t (suc n) ≡ or-else (polls-fault sm rule rm t n) (row-fault sm rule rm (t + n))
+  next : (n : ℕ) → polls-fault sm rule rm t (suc n) ≡ orOther (polls-fault sm rule rm t n) (row-fault sm rule rm (t + n))
   unfolding polls-fault
   next n = refl
 
   at-next : (n : ℕ) → polls-fault sm rule rm t n ≡ None → polls-fault sm rule rm t (n + 1) ≡ row-fault sm rule rm (t + n)
-  at-next n none = let e : n + 1 ≡ suc n = omega arith in ap (polls-fault sm rule rm t) e ∙ next n ∙ ap (λ o. or-else o (row-fault sm rule rm (t + n))) none
+  at-next n none = let e : n + 1 ≡ suc n = omega arith in ap (polls-fault sm rule rm t) e ∙ next n ∙ ap (λ o. orOther o (row-fault sm rule rm (t + n))) none
 
   stays : (e : WatchFault) (n k : ℕ) → polls-fault sm rule rm t n ≡ Some e → polls-fault sm rule rm t (k + n) ≡ Some e
   stays e n zero h = let z : 0 + n ≡ n = omega arith in ap (polls-fault sm rule rm t) z ∙ h
-  stays e n (suc k) h = let z : suc k + n ≡ suc (k + n) = omega arith in ap (polls-fault sm rule rm t) z ∙ next (k + n) ∙ ap (λ o. or-else o (row-fault sm rule rm (t + (k + n)))) (stays e n k h)
+  stays e n (suc k) h = let z : suc k + n ≡ suc (k + n) = omega arith in ap (polls-fault sm rule rm t) z ∙ next (k + n) ∙ ap (λ o. orOther o (row-fault sm rule rm (t + (k + n)))) (stays e n k h)
 
   pub poll-fine : (n : ℕ) → Ok tt ≡ checked (row-fault sm rule rm (t + n)) → polls-fault sm rule rm t n ≡ None → polls-fault sm rule rm t (n + 1) ≡ None
   poll-fine n fine none = at-next n none ∙ none-told (row-fault sm rule rm (t + n)) fine
@@ -64,7 +65,7 @@ module _ {Reading Margin : Type 0} (sm : ScaleModel Reading Margin) (rule : Rule
       more : suc n ≡ n + 1
       more = omega arith
 
-      parts : (a b : Option WatchFault) → or-else a b ≡ None → (a ≡ None) × (b ≡ None)
+      parts : (a b : Option WatchFault) → orOther a b ≡ None → (a ≡ None) × (b ≡ None)
       parts None b e = (refl, e)
       parts (Some f) b e = let z : _≡_ {A = ℕ} 0 1 = cc in absurd (omega arith)
 

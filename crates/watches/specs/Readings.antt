@@ -5,7 +5,7 @@
 use mathlib.Core.Bool.{Bool, cond}
 use Prim.Native.Nat.{ℕ, zero, suc}
 use lib.IntN.{ℤ, pos}
-use Rattle.std.specs.Options.{valueOr}
+use Rattle.std.specs.Options.{valueOr, orOther}
 use Rattle.std.specs.declared.option.Option.{Option}
 use Rattle.std.specs.declared.option.Option.the-variants.{Some, None}
 use Rattle.entries.specs.Heads.{head-total}
@@ -32,14 +32,10 @@ abbrev pub reading-fault : {Reading Margin : Type 0} → ScaleModel Reading Marg
 reading-fault sm head poll None = Some (NoReading head poll)
 reading-fault sm head poll (Some x) = step-fault head poll (sm .steps x)
 
-abbrev pub or-else : Option WatchFault → Option WatchFault → Option WatchFault
-or-else None other = other
-or-else (Some e) other = Some e
-
 -- the first fault of the heads below n that are read
 unfoldable pub first-fault : (ℕ → Bool) → (ℕ → Option WatchFault) → ℕ → Option WatchFault
 first-fault read fault zero = None
-first-fault read fault (suc n) = or-else (first-fault read fault n) (cond (read n) (fault n) None)
+first-fault read fault (suc n) = orOther (first-fault read fault n) (cond (read n) (fault n) None)
 
 -- the first fault of a poll, by head
 abbrev pub row-fault : {Reading Margin : Type 0} → ScaleModel Reading Margin → Rule → RecordModel Reading → ℕ → Option WatchFault

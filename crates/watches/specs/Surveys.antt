@@ -20,14 +20,15 @@ use Rattle.rules.specs.Rules.{zone, formula}
 use Rattle.rules.specs.declared.rule.Rule.{Rule}
 use Rattle.scales.specs.Model.{ScaleModel}
 use Rattle.layout.specs.Rows.{Row, cells-of, Holds}
-use Rattle.watches.specs.Readings.{or-else, row-fault, steps-at, row}
+use Rattle.std.specs.Options.{orOther}
+use Rattle.watches.specs.Readings.{row-fault, steps-at, row}
 use Rattle.watches.specs.declared.faults.WatchFault.{WatchFault}
 use Rattle.watches.specs.declared.faults.WatchFault.the-variants.{TooFewCells, PastTheEnd}
 
 -- the first fault of n polls from poll t on, by poll and head
 unfoldable pub polls-fault : {Reading Margin : Type 0} → ScaleModel Reading Margin → Rule → RecordModel Reading → ℕ → ℕ → Option WatchFault
 polls-fault sm rule rm t zero = None
-polls-fault sm rule rm t (suc n) = or-else (polls-fault sm rule rm t n) (row-fault sm rule rm (t + n))
+polls-fault sm rule rm t (suc n) = orOther (polls-fault sm rule rm t n) (row-fault sm rule rm (t + n))
 
 -- the rows of n polls from poll t on
 unfoldable pub rows-from : {Reading Margin : Type 0} → ScaleModel Reading Margin → Rule → RecordModel Reading → ℕ → ℕ → List Row

@@ -1,4 +1,6 @@
 // What a rule is made of: sets of heads, entries as a caller writes them, and the operations that they stand for.
+#![tactic(auto)]
+
 mod decode;
 mod entry;
 mod heads;

@@ -1,4 +1,6 @@
 // The one form of every refusal: its number, the layer that refuses, and the place at fault.
+#![tactic(auto)]
+
 mod grounds;
 mod layers;
 mod places;

@@ -1,4 +1,6 @@
 // Formulas over the readings of a zone's heads: what they mean, and what a margin says of readings that are not quite true.
+#![tactic(auto)]
+
 ghost use Rattle.std.specs.Prelude.{ℕ, List, ℤ};
 ghost use Rattle.formulas.specs.Formula.{Formula};
 ghost use Rattle.formulas.specs.Margin.{Formed};

@@ -1,5 +1,7 @@
 // The cells of a watch, and the step that keeps them: a ring of margins for each entry of a rule, an ordered run for each
 // window, and the tests of a zone's heads.
+#![tactic(auto)]
+
 mod entries;
 mod nodes;
 mod parts;

@@ -1,4 +1,6 @@
 // Records: up to 64 heads, up to 16,777,216 polls, and for each head and poll a reading or none.
+#![tactic(auto)]
+
 mod entries;
 mod excerpts;
 mod grids;

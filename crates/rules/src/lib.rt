@@ -1,4 +1,6 @@
 // Rules over detector heads: a list of entries in a zone, what it assembles to, and what is asked of the rule it makes.
+#![tactic(auto)]
+
 mod assemble;
 mod fault;
 mod node;

@@ -1,4 +1,6 @@
 // The K-th highest of margins, and runs that keep margins in order, on any scale.
+#![tactic(auto)]
+
 mod cells;
 mod run;
 mod select;

@@ -1,4 +1,6 @@
 // Scales: how a reading becomes steps, and how a difference in steps becomes a margin.
+#![tactic(auto)]
+
 mod counts;
 mod limit;
 mod obscuration;

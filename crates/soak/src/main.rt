@@ -1,4 +1,6 @@
 // soak: the margins of rules over a soak of the detector heads.
+#![tactic(auto)]
+
 mod example;
 mod failure;
 mod written;

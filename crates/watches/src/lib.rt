@@ -1,4 +1,6 @@
 // Watches: a rule on a scale, fed with the polls of records row by row, and its margin asked for at any time.
+#![tactic(auto)]
+
 mod answers;
 mod faults;
 mod readings;

@@ -10,13 +10,13 @@ returns-then-margins-eq0 g c =
     let whole = (g.S.Scale.model c.args.scale.now).whole in
     record { within = omega arith; counts = λ d. omega (arith, above_le whole c.args.margins.now (whole c.args.m)) }
 
-pub overflow-add-base : goal.overflow-add-base
-overflow-add-base g c =
+pub overflow_add-base : goal.overflow_add-base
+overflow_add-base g c =
     let lower = c.loop-level.level - 1 in
     omega (arith, pow_half c.loop-level.level lower (omega arith), pow_pos lower, c.jump-in-loop-level.ensures)
 
-pub offset-bounds-margins-base : goal.offset-bounds-margins-base
-offset-bounds-margins-base g c =
+pub offset_bounds-margins-base : goal.offset_bounds-margins-base
+offset_bounds-margins-base g c =
     let lower = c.loop-level.level - 1 in
     omega (arith, pow_half c.loop-level.level lower (omega arith), pow_pos lower, c.jump-in-loop-level.ensures)
 
@@ -25,8 +25,8 @@ bounds-margins-base g c =
     let lower = c.loop-level.level - 1 in
     omega (arith, pow_half c.loop-level.level lower (omega arith), pow_pos lower, c.jump-in-loop-level.ensures)
 
-pub overflow-add-base-in-loop-level : goal.overflow-add-base-in-loop-level
-overflow-add-base-in-loop-level g c =
+pub overflow_add-base-in-loop-level : goal.overflow_add-base-in-loop-level
+overflow_add-base-in-loop-level g c =
     let lower = c.loop-level.level - 1 in
     let q = pow_half c.loop-level.level lower (omega arith) in
     omega (arith, pow_pos lower, stays_in c.exceeds-hit.result c.loop-level.base (2 ^ lower) (2 ^ c.loop-level.level) _ (length c.args.margins.now) q (omega arith) c.jump-base.ensures)

@@ -13,4 +13,4 @@ returns g c =
     found.place
     (placed_from whole xs used c.args.new c.place-at.result c.place-at.ensures.counts)
     found.same
-    c.replace-at.ensures.up c.replace-at.ensures.down
+    c.replace_at.ensures.up c.replace_at.ensures.down

@@ -20,5 +20,5 @@ returns-in-20 c = record { value = search rules; decoded = decoded c.args.self c
 pub returns-in-21 : goal.returns-in-21
 returns-in-21 c = record { value = search rules; decoded = decoded c.args.self c.args.heads }
 
-pub returns-in-default : goal.returns-in-default
-returns-in-default c = record { value = search rules; decoded = decoded c.args.self c.args.heads }
+pub returns-in_default : goal.returns-in_default
+returns-in_default c = record { value = search rules; decoded = decoded c.args.self c.args.heads }

@@ -3,8 +3,8 @@ use lib.Bits.{bit_or}
 use Rattle.entries.proofs.Adding.{united, both_fit}
 use Rattle.entries.proofs.heads.HeadSet.union.Goals as goal
 
-pub invariant-of-result : goal.invariant-of-result
-invariant-of-result c =
+pub invariant_of-result : goal.invariant_of-result
+invariant_of-result c =
     let is : c.joined.result ≡ bit_or c.args.self.bits c.args.other.bits = cc in
     (both_fit c.joined.result c.args.self.bits c.args.other.bits is c.args.self.few c.args.other.few, tt)
 

@@ -11,14 +11,14 @@ loop-b-init c =
     let z : 0 ≡ min 0 (length c.args.entries.now) = omega arith in
     ((λ b h lt o. absurd (omega arith)), (λ h o. get_or-replicate most_heads h 0 0 o ∙ ap (mark h c.args.entries.now) z), refl)
 
-pub offset-bounds-marks-at : goal.offset-bounds-marks-at
-offset-bounds-marks-at c =
+pub offset_bounds-marks-at : goal.offset_bounds-marks-at
+offset_bounds-marks-at c =
     let e : c.loop-b.b * c.args.heads + c.args.heads ≤ length c.args.marks.now = row_end c.args.heads (length c.args.entries.now / 256 + 1) c.loop-b.b _ c.requires.holds (omega arith) in
     let k = c.loop-b.auto in
     search rules
 
-pub slice-bounds-write-row-end : goal.slice-bounds-write-row-end
-slice-bounds-write-row-end c =
+pub slice_bounds-write_row-end : goal.slice_bounds-write_row-end
+slice_bounds-write_row-end c =
     let e : c.loop-b.b * c.args.heads + c.args.heads ≤ length c.args.marks.now = row_end c.args.heads (length c.args.entries.now / 256 + 1) c.loop-b.b _ c.requires.holds (omega arith) in
     search rules
 
@@ -33,9 +33,9 @@ loop-b-preserved c =
     let long : length (take (n * heads + heads - n * heads) (drop (n * heads) c.loop-b.marks)) ≡ heads = simp (length-take, length-drop) (omega arith) in
     let at : min (n * 256) (length es) ≡ n * 256 = omega arith in
     let size : length es < 2 ^ 64 = search rules in
-    let to : c.min-to.result ≡ min ((n + 1) * 256) (length es) = omega (arith, c.min-to.ensures, c.saturating-add.ensures) in (
-      rows_more heads n _ c.loop-b.marks c.write-row.new.row es (omega arith) (c.write-row.auto.row ∙ long) inv.0
-          (λ h o. c.write-row.ensures h (omega arith) ∙ inv.1 h (omega (arith, c.requires.few)) ∙ ap (mark h es) at),
+    let to : c.min-to.result ≡ min ((n + 1) * 256) (length es) = omega (arith, c.min-to.ensures, c.saturating_add.ensures) in (
+      rows_more heads n _ c.loop-b.marks c.write_row.new.row es (omega arith) (c.write_row.auto.row ∙ long) inv.0
+          (λ h o. c.write_row.ensures h (omega arith) ∙ inv.1 h (omega (arith, c.requires.few)) ∙ ap (mark h es) at),
       (λ h o. c.absorb.ensures h o ∙ ap (mark h es) to),
       c.absorb.array_long,
     )

@@ -13,25 +13,25 @@ use Rattle.records.proofs.order.check_entries.Goals as goal
 pub loop-i-init : goal.loop-i-init
 loop-i-init c = (refl, refl, tt, (λ h o. get_or-replicate most_heads h 0 0 o), refl)
 
-pub returns-in-err-check-place : goal.returns-in-err-check-place
-returns-in-err-check-place c =
-    let p = err_from_is_err_and c.from-residual.result c.from-residual.ensures.1 in
+pub returns-in_err-check_place : goal.returns-in_err-check_place
+returns-in_err-check_place c =
+    let p = err_from_is_err_and c.from_residual.result c.from_residual.ensures.1 in
     let es = c.args.entries.now in
     let i = c.loop-i.i in
-    let is = by_place c.args.heads c.args.polls i 0 (reverse (take i es)) (get_or es i blank) _ c.in-err-check-place.ensures in
+    let is = by_place c.args.heads c.args.polls i 0 (reverse (take i es)) (get_or es i blank) _ c.in_err-check_place.ensures in
     rw (p.1, p.2) (ap checked (sym (c.loop-i.invariant.0 ∙ fault_here c.args.heads c.args.polls es i c.loop-i-test.true _ is)))
 
-pub returns-in-err-check-order : goal.returns-in-err-check-order
-returns-in-err-check-order c =
-    let p = err_from_is_err_and c.from-residual-in-err-check-order.result c.from-residual-in-err-check-order.ensures.1 in
+pub returns-in_err-check_order : goal.returns-in_err-check_order
+returns-in_err-check_order c =
+    let p = err_from_is_err_and c.from_residual-in_err-check_order.result c.from_residual-in_err-check_order.ensures.1 in
     let es = c.args.entries.now in
     let i = c.loop-i.i in
     let inv = c.loop-i.invariant in
     let bs = reverse (take i es) in
     let e = get_or es i blank in
-    let low : e.head < most_heads = omega (arith, below c.args.heads c.args.polls i 0 bs e c.in-ok-check-place.ensures, c.requires.0) in
-    let is = by_order c.args.heads c.args.polls i _ bs e _ inv.1 inv.2 (inv.3 e.head low) c.in-ok-check-place.ensures in
-    rw (p.1, p.2) (ap checked (sym (inv.0 ∙ fault_here c.args.heads c.args.polls es i c.loop-i-test.true _ (is ∙ this_fault _ _ c.in-err-check-order.ensures))))
+    let low : e.head < most_heads = omega (arith, below c.args.heads c.args.polls i 0 bs e c.in_ok-check_place.ensures, c.requires.0) in
+    let is = by_order c.args.heads c.args.polls i _ bs e _ inv.1 inv.2 (inv.3 e.head low) c.in_ok-check_place.ensures in
+    rw (p.1, p.2) (ap checked (sym (inv.0 ∙ fault_here c.args.heads c.args.polls es i c.loop-i-test.true _ (is ∙ this_fault _ _ c.in_err-check_order.ensures))))
 
 pub loop-i-preserved : goal.loop-i-preserved
 loop-i-preserved c =
@@ -40,9 +40,9 @@ loop-i-preserved c =
     let inv = c.loop-i.invariant in
     let bs = reverse (take i es) in
     let e = get_or es i blank in
-    let low : e.head < most_heads = omega (arith, below c.args.heads c.args.polls i 0 bs e c.in-ok-check-place.ensures, c.requires.0) in
-    let is = by_order c.args.heads c.args.polls i _ bs e _ inv.1 inv.2 (inv.3 e.head low) c.in-ok-check-place.ensures in
-    let ok = is ∙ no_fault _ c.in-ok-check-order.ensures in
+    let low : e.head < most_heads = omega (arith, below c.args.heads c.args.polls i 0 bs e c.in_ok-check_place.ensures, c.requires.0) in
+    let is = by_order c.args.heads c.args.polls i _ bs e _ inv.1 inv.2 (inv.3 e.head low) c.in_ok-check_place.ensures in
+    let ok = is ∙ no_fault _ c.in_ok-check_order.ensures in
     let more = before_more es i c.loop-i-test.true in (
       inv.0 ∙ fault_on c.args.heads c.args.polls es i c.loop-i-test.true ok,
       sym (ap floor more),

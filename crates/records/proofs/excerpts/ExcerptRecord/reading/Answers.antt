@@ -7,6 +7,6 @@ pub returns : goal.returns
 unfolding excerpt_record
 returns g c = search rules
 
-pub overflow-add-self : goal.overflow-add-self
+pub overflow_add-self : goal.overflow_add-self
 unfolding excerpt_record
-overflow-add-self g c = search rules
+overflow_add-self g c = search rules

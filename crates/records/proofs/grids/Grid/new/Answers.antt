@@ -8,6 +8,6 @@ use Rattle.records.proofs.grids.Grid.new.Goals.{in-Ok, in-Err}
 pub returns : goal.returns
 returns g c =
     elim c.match-check.branch [
-      | in-Ok w ↦ ap (λ v. grid_record v.0 v.1.0 v.1.1.0.now) w.result_is
-      | in-Err w ↦ ap (λ v. grid_record v.0 v.1.0 v.1.1.0.now) w.result_is ∙ sym (refused (grid_fault c.args.heads c.args.polls (length c.args.readings.now)) w.in-Err.field-0 _ (sym w.in-Err.is ∙ c.check.ensures))
+      | in-Ok w ↦ ap (λ v. grid_record v.0 v.1.0 v.1.1.0.now) w.result-is
+      | in-Err w ↦ ap (λ v. grid_record v.0 v.1.0 v.1.1.0.now) w.result-is ∙ sym (refused (grid_fault c.args.heads c.args.polls (length c.args.readings.now)) w.in-Err.field-0 _ (sym w.in-Err.is ∙ c.check.ensures))
     ]

@@ -6,8 +6,8 @@ use Rattle.records.proofs.grids.GridRecord.reading.Goals as goal
 pub bounds-self-place : goal.bounds-self-place
 bounds-self-place g c = place_below _ _ _ _ _ _ c.args.self.now.lawful c.if-head-self.false c.if-poll-self.false c.place.ensures
 
-pub offset-bounds-self-place : goal.offset-bounds-self-place
-offset-bounds-self-place g c =
+pub offset_bounds-self-place : goal.offset_bounds-self-place
+offset_bounds-self-place g c =
     let lt : c.place.result < length c.args.self.now.readings.now = place_below _ _ _ _ _ _ c.args.self.now.lawful c.if-head-self.false c.if-poll-self.false c.place.ensures in
     search rules
 

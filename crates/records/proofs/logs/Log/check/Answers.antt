@@ -8,7 +8,7 @@ use Rattle.records.proofs.logs.Log.check.Goals as goal
 
 pub returns-in-Ok : goal.returns-in-Ok
 returns-in-Ok g c =
-    let is : c.check-entries.result ≡ checked (log_fault c.args.heads c.args.polls c.args.entries.now) = search rules in
+    let is : c.check_entries.result ≡ checked (log_fault c.args.heads c.args.polls c.args.entries.now) = search rules in
     record { value = is; lawful = decides_result c.args.heads c.args.polls c.args.entries.now _ is }
 
 pub returns-in-Err : goal.returns-in-Err

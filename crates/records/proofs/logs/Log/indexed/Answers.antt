@@ -16,10 +16,13 @@ fill-requires g c =
     record {
       few = few;
       below = kept_below l.heads l.polls 0 es l.lawful lt;
-      holds = omega (arith, room_fits l.heads (length es) few long, c.marks-for.ensures, c.if-marks-marks-for.false);
+      holds = omega (arith, room_fits l.heads (length es) few long, c.marks_for.ensures, c.if-marks-marks_for.false);
     }
 
-pub invariant-of-result : goal.invariant-of-result
-invariant-of-result g c =
+pub invariant_of-result : goal.invariant_of-result
+invariant_of-result g c =
     let l = c.new-log.result in
-    (l.lawful, (or_right (eqb (length c.fill.new.marks) 0) _ (marked_index l.heads l.entries.now c.fill.new.marks c.fill.ensures), tt))
+    record {
+      lawful = l.lawful;
+      indexed = or_right (eqb (length c.fill.new.marks) 0) _ (marked_index l.heads l.entries.now c.fill.new.marks c.fill.ensures);
+    }

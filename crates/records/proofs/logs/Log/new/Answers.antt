@@ -16,12 +16,12 @@ returns g c =
     let v = c.match-check.result in
     let same : log_record f v.0 v.1.0 v.1.1.0.now v.1.1.1.0 ≡ log_record f c.args.heads c.args.polls es c.args.standing =
     elim c.match-check.branch [
-      | in-Ok w ↦ ap (λ v. log_record f v.0 v.1.0 v.1.1.0.now v.1.1.1.0) w.result_is
+      | in-Ok w ↦ ap (λ v. log_record f v.0 v.1.0 v.1.1.0.now v.1.1.1.0) w.result-is
       | in-Err w ↦
           let fault = log_fault c.args.heads c.args.polls es in
           let out : Err w.in-Err.field-0 ≡ checked fault = ◌∙◌ {c = checked fault} (sym w.in-Err.is) c.check.ensures.value in
           let empty : log_record f c.args.heads c.args.polls es c.args.standing ≡ empty_record = refused fault w.in-Err.field-0 _ out in
-          ap (λ v. log_record f v.0 v.1.0 v.1.1.0.now v.1.1.1.0) w.result_is ∙ sym empty
+          ap (λ v. log_record f v.0 v.1.0 v.1.1.0.now v.1.1.1.0) w.result-is ∙ sym empty
     ] in
     record {
       model = same;

@@ -7,22 +7,22 @@ use Rattle.rules.proofs.Grounds.{refused, bad_count, bad_heads}
 use Rattle.rules.proofs.Standing.{passes}
 use Rattle.rules.proofs.assemble.make.Goals as goal
 
-pub returns-then-not-fair-count : goal.returns-then-not-fair-count
-returns-then-not-fair-count c = record { value = sym (bad_count _ _ (sym c.fair_count.ensures ∙ c.if-not-fair-count.true)); kept = tt }
+pub returns-then-not-fair_count : goal.returns-then-not-fair_count
+returns-then-not-fair_count c = record { value = sym (bad_count _ _ (sym c.fair_count.ensures ∙ c.if-not-fair_count.true)); kept = tt }
 
-pub returns-then-not-fair-heads : goal.returns-then-not-fair-heads
-returns-then-not-fair-heads c =
-    let none = ap fair_heads (sym c.size-heads.ensures) ∙ sym c.fair_heads.ensures ∙ c.if-not-fair-heads.true in
+pub returns-then-not-fair_heads : goal.returns-then-not-fair_heads
+returns-then-not-fair_heads c =
+    let none = ap fair_heads (sym c.size-heads.ensures) ∙ sym c.fair_heads.ensures ∙ c.if-not-fair_heads.true in
     record {
-      value = ap (λ (n : ℕ). Err (ZoneHeadCount n)) c.size-heads.ensures ∙ sym (bad_heads _ _ (sym c.fair_count.ensures ∙ c.if-not-fair-count.false) none);
+      value = ap (λ (n : ℕ). Err (ZoneHeadCount n)) c.size-heads.ensures ∙ sym (bad_heads _ _ (sym c.fair_count.ensures ∙ c.if-not-fair_count.false) none);
       kept = tt;
     }
 
-pub returns-in-err-spans : goal.returns-in-err-spans
-returns-in-err-spans c =
-    let p = err_from_is_err_and c.from-residual.result c.from-residual.ensures.1 in
-    let some = ap fair_heads (sym c.size-heads.ensures) ∙ sym c.fair_heads.ensures ∙ c.if-not-fair-heads.false in
-    let is = refused _ _ _ (sym c.fair_count.ensures ∙ c.if-not-fair-count.false) some c.in-err-spans.ensures in
+pub returns-in_err-spans : goal.returns-in_err-spans
+returns-in_err-spans c =
+    let p = err_from_is_err_and c.from_residual.result c.from_residual.ensures.1 in
+    let some = ap fair_heads (sym c.size-heads.ensures) ∙ sym c.fair_heads.ensures ∙ c.if-not-fair_heads.false in
+    let is = refused _ _ _ (sym c.fair_count.ensures ∙ c.if-not-fair_count.false) some c.in_err-spans.ensures in
     rw p.1 record { value = ap Err p.2 ∙ sym is; kept = tt }
 
 pub returns : goal.returns

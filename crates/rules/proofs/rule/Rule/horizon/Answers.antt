@@ -2,8 +2,8 @@ use Rattle.std.proofs.Common.{arith}
 use Rattle.rules.proofs.Standing.{some, horizon_is, lawful_is}
 use Rattle.rules.proofs.rule.Rule.horizon.Goals as goal
 
-pub overflow-sub-result : goal.overflow-sub-result
-overflow-sub-result c = omega (arith, some c.args.self.now, c.args.self.now.listed, c.len.ensures.value)
+pub overflow_sub-result : goal.overflow_sub-result
+overflow_sub-result c = omega (arith, some c.args.self.now, c.args.self.now.listed, c.len.ensures.value)
 
 pub returns : goal.returns
 returns c =

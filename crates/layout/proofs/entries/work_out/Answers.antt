@@ -8,8 +8,8 @@ use Rattle.layout.proofs.Moves.{known}
 use Rattle.layout.proofs.Workings.{fair, work_zone, work_not, work_either, work_both, work_window}
 use Rattle.layout.proofs.entries.work_out.Goals as goal
 
-pub zone-margin-requires : goal.zone-margin-requires
-zone-margin-requires g c =
+pub zone_margin-requires : goal.zone_margin-requires
+zone_margin-requires g c =
     let r = c.args.rule.now in
     let f = fair (g.S.Scale.model c.args.scale.now) (shape r) (row_at (g.R.Record.model c.args.«record».now) c.args.poll) c.args.rows c.args.at c.args.cells.now c.requires.ready c.requires.below c.requires.ripe (ZoneTest c.in-ZoneTest.k c.in-ZoneTest.sense c.in-ZoneTest.limit.steps) c.in-ZoneTest.ensures in
     let size : c.size.result ≡ length (shape r).zone = c.size.ensures ∙ ap (λ z. length (heads z.bits)) c.zone.ensures in
@@ -40,13 +40,13 @@ operand-requires-in-Both-2 g c =
     let f = fair (g.S.Scale.model c.args.scale.now) (shape c.args.rule.now) (row_at (g.R.Record.model c.args.«record».now) c.args.poll) c.args.rows c.args.at c.args.cells.now c.requires.ready c.requires.below c.requires.ripe (Both c.in-Both.left c.in-Both.right) c.in-Both.ensures in
     record { ready = c.requires.ready; below = c.requires.below; earlier = f.1; nearer = f.3; ripe = c.requires.ripe }
 
-pub overflow-add-to-in-Window : goal.overflow-add-to-in-Window
-overflow-add-to-in-Window g c =
+pub overflow_add-to-in-Window : goal.overflow_add-to-in-Window
+overflow_add-to-in-Window g c =
     let kn = known (shape c.args.rule.now) c.args.at c.in-Window.of c.in-Window.first c.in-Window.last c.in-Window.rank _ c.requires.ready c.requires.below c.in-Window.ensures in
     omega (arith, kn.fits, c.requires.place)
 
-pub pick-part-requires : goal.pick-part-requires
-pick-part-requires g c =
+pub pick_part-requires : goal.pick_part-requires
+pick_part-requires g c =
     let kn = known (shape c.args.rule.now) c.args.at c.in-Window.of c.in-Window.first c.in-Window.last c.in-Window.rank _ c.requires.ready c.requires.below c.in-Window.ensures in
     (omega arith, omega (arith, kn.fits, c.requires.place))
 
@@ -56,7 +56,7 @@ returns-in-ZoneTest g c =
     let f = fair (g.S.Scale.model c.args.scale.now) (shape r) (row_at (g.R.Record.model c.args.«record».now) c.args.poll) c.args.rows c.args.at c.args.cells.now c.requires.ready c.requires.below c.requires.ripe (ZoneTest c.in-ZoneTest.k c.in-ZoneTest.sense c.in-ZoneTest.limit.steps) c.in-ZoneTest.ensures in
     let size : c.size.result ≡ length (shape r).zone = c.size.ensures ∙ ap (λ z. length (heads z.bits)) c.zone.ensures in
     work_zone (g.S.Scale.model c.args.scale.now) (shape c.args.rule.now) (row_at (g.R.Record.model c.args.«record».now) c.args.poll) c.args.rows c.args.at c.args.cells.now c.requires.ready c.requires.below c.requires.ripe
-    c.in-ZoneTest.k c.in-ZoneTest.sense c.in-ZoneTest.limit.steps _ _ c.zone-margin.result c.in-ZoneTest.ensures (tests_place r c.need.result c.size.result c.need.ensures size f.1) c.zone-margin.ensures
+    c.in-ZoneTest.k c.in-ZoneTest.sense c.in-ZoneTest.limit.steps _ _ c.zone_margin.result c.in-ZoneTest.ensures (tests_place r c.need.result c.size.result c.need.ensures size f.1) c.zone_margin.ensures
 
 pub returns-in-Not : goal.returns-in-Not
 returns-in-Not g c =
@@ -80,6 +80,6 @@ returns-in-Window g c =
     let sm = g.S.Scale.model c.args.scale.now in
     let sh = shape c.args.rule.now in
     let xs = c.args.cells.now in
-    subst (λ ys. WorkedOut sm sh (row_at (g.R.Record.model c.args.«record».now) c.args.poll) c.args.rows c.args.at xs ys c.pick-part.result) (sym c.pick-part.ensures.same)
+    subst (λ ys. WorkedOut sm sh (row_at (g.R.Record.model c.args.«record».now) c.args.poll) c.args.rows c.args.at xs ys c.pick_part.result) (sym c.pick_part.ensures.same)
     (work_window sm sh (row_at (g.R.Record.model c.args.«record».now) c.args.poll) c.args.rows c.args.at xs c.requires.ready c.requires.below c.requires.ripe
-    c.in-Window.of c.in-Window.first c.in-Window.last c.in-Window.rank c.args.from _ c.pick-part.result c.in-Window.ensures c.requires.place (omega arith) (c.pick-part.ensures.highest sm.whole))
+    c.in-Window.of c.in-Window.first c.in-Window.last c.in-Window.rank c.args.from _ c.pick_part.result c.in-Window.ensures c.requires.place (omega arith) (c.pick_part.ensures.highest sm.whole))

@@ -14,6 +14,6 @@ returns g c =
     let from = c.args.from in
     let to = c.args.to in
     record {
-      same = ap (put_mid from (to - from) xs) c.pick-from.ensures.same ∙ part_same from (to - from) xs;
-      highest = λ whole. subst (λ u. InOrder whole u (between from to xs) → option_map whole c.pick-from.result ≡ highest c.args.k (wholes whole u (between from to xs))) (length-between xs from to (omega arith)) (c.pick-from.ensures.highest whole);
+      same = ap (put_mid from (to - from) xs) c.pick_from.ensures.same ∙ part_same from (to - from) xs;
+      highest = λ whole. subst (λ u. InOrder whole u (between from to xs) → option_map whole c.pick_from.result ≡ highest c.args.k (wholes whole u (between from to xs))) (length-between xs from to (omega arith)) (c.pick_from.ensures.highest whole);
     }

@@ -5,5 +5,5 @@ use Rattle.watches.proofs.watch.Watch.answer.Goals as goal
 
 pub returns : goal.returns
 returns g c =
-    asked_at g.S.Scale.model c.args.self.now c.args.cells.now c.horizon-horizon.result (enough_cells c.args.self.now.rule (length c.args.cells.now) c.in-ok-check-cells.ensures) c.horizon-horizon.ensures.value _ _ c.in-Some.margin (omega (arith, c.horizon-horizon.ensures.value))
+    asked_at g.S.Scale.model c.args.self.now c.args.cells.now c.horizon-horizon.result (enough_cells c.args.self.now.rule (length c.args.cells.now) c.in_ok-check_cells.ensures) c.horizon-horizon.ensures.value _ _ c.in-Some.margin (omega (arith, c.horizon-horizon.ensures.value))
     (omega (arith, has_rows c.args.self.now.rule _ _ c.in-Some.ensures.there, c.horizon-horizon.ensures.value)) (omega arith) c.in-Some.ensures.value

@@ -2,4 +2,4 @@ use Rattle.watches.proofs.StepLaws.{stepped}
 use Rattle.watches.proofs.watch.Watch.step.Goals as goal
 
 pub returns : goal.returns
-returns g c = stepped g.S.Scale.model (g.R.Record.model c.args.«record».now) c.args.poll c.args.self.now c.args.cells.now _ c.in-ok-write-row.ensures
+returns g c = stepped g.S.Scale.model (g.R.Record.model c.args.«record».now) c.args.poll c.args.self.now c.args.cells.now _ c.in_ok-write_row.ensures

@@ -21,5 +21,5 @@ place_text (Byte byte) = codes "byte " ++ decimal byte
 
 -- as "refused by 7, log, at entry 3"
 abbrev pub ground_text : Ground → List ℕ
-ground_text ground =
-    codes "refused by " ++ (decimal ground.number ++ (codes ", " ++ (layer_text ground.layer ++ (codes ", at " ++ place_text ground.place))))
+ground_text g =
+    codes "refused by " ++ (decimal g.number ++ (codes ", " ++ (layer_text g.layer ++ (codes ", at " ++ place_text g.place))))

@@ -15,7 +15,7 @@ pub struct Ground {
 }
 
 impl fmt::Display for Ground {
-    ghost output = { λ ground. Some (ground_text ground) };
+    ghost output = { λ g. Some (ground_text g) };
 
     fn fmt<W: fmt::Write>(&self, f: &mut fmt::Formatter<W>) -> fmt::Result {
         let number = self.number;

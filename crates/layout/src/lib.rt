@@ -2,7 +2,7 @@
 // window, and the tests of a zone's heads.
 #![tactic(auto)]
 
-mod entries;
+mod entering;
 mod nodes;
 mod parts;
 mod rings;

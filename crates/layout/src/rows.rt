@@ -4,7 +4,7 @@ ghost use Rattle.layout.specs.Shape.{shape, Ready};
 ghost use Rattle.layout.specs.Steps.{row_at, Leaving, AllEntered};
 ghost use Rattle.layout.specs.Rows.{Advanced, has_latest, Latest};
 
-use crate::entries::enter;
+use crate::entering::enter;
 use crate::nodes::{node_at, ring_size, run_width};
 use crate::rings::read_back;
 use crate::windows::oldest;

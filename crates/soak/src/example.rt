@@ -8,7 +8,6 @@ use runs::rank;
 use scales::{Counts, Limit, Obscuration, Panel, Scale, Sense, Verdict, VerdictMargin};
 use std::alloc::Global;
 use watches::{Answer, Watch, survey};
-use worked::may_wander;
 
 // What one head read, poll by poll.
 const READINGS: [i32; 8] = [5, 9, 12, 7, 10, 3, 8, 11];
@@ -54,19 +53,13 @@ fn show_window(rt: &HostRuntime) -> Result<(), Failure> {
         let verdict = word(*verdict);
         println!(rt; "  poll {poll}: margin {margin}, {verdict}")?;
     }
-    let mut cells = lent(rt.alloc(), &Counts, &rule, &soak)?;
-    if let Some(steps) = may_wander(rule, &mut cells, &soak, 0, 7) {
-        println!(rt;
-            "With the margin at poll 4, head 0 may read {steps} step off at any poll with no other verdict there."
-        )?;
-    }
     let fewer = rank(950, DAY);
     let more = rank(951, DAY);
     println!(rt; "Of a day's {DAY} polls, 950 thousandths are {fewer} polls, and 951 are {more}.")?;
     Ok(())
 }
 
-// What a watch answers at each poll that has all its rows: the first play takes the rows of poll 0, every other one more.
+// What a watch answers as it takes the record's polls one by one, from the first that has all its rows on.
 fn watched<S: Scale + Copy, R: Record<Reading = S::Reading>>(
     heap: Global,
     scale: S,
@@ -76,15 +69,12 @@ fn watched<S: Scale + Copy, R: Record<Reading = S::Reading>>(
     let mut cells = lent(heap, &scale, &rule, record)?;
     let mut watch = Watch::new(rule, scale);
     let mut margins = Vec::new(heap);
-    let mut first = 0;
-    for last in rule.horizon()..record.polls() {
-        if let Some(fault) = watch.play(&mut cells, record, first, last).fault {
-            return Err(Failure::Watch(fault));
+    for poll in 0..record.polls() {
+        watch.step(&mut cells, record, poll)?;
+        match watch.ask(&cells)? {
+            Answer::Waiting { .. } => {}
+            Answer::At { margin, .. } => margins.push(margin)?,
         }
-        if let Answer::At { margin, .. } = watch.ask(&cells)? {
-            margins.push(margin)?;
-        }
-        first = last + 1;
     }
     Ok(margins)
 }
@@ -161,22 +151,20 @@ fn show_refused_rule(rt: &HostRuntime) -> Result<(), Failure> {
     Ok(())
 }
 
-// A play that a row stops: it keeps the rows before, and another goes on behind it.
+// A row that a watch refuses; it keeps those that it has taken.
 fn show_refused_row(rt: &HostRuntime) -> Result<(), Failure> {
     let rule = Rule::new(&[head_test(0, 8)], HeadSet::starting())?;
     let soak = Grid::new(1, 4, &TOO_HIGH);
     println!(rt)?;
-    println!(rt; "A play over 5, 65535, 65536 and 7 is stopped by the third:")?;
+    println!(rt; "A watch that is given 5, 65535, 65536 and 7 takes all but the third:")?;
     let mut cells = lent(rt.alloc(), &Counts, &rule, &soak)?;
     let mut watch = Watch::new(rule, Counts);
-    let play = watch.play(&mut cells, &soak, 0, 3);
-    let rows = play.rows;
-    println!(rt; "  {rows} rows taken")?;
-    if let Some(fault) = play.fault {
-        println!(rt; "  {fault}")?;
+    for poll in 0..4u32 {
+        match watch.step(&mut cells, &soak, poll) {
+            Ok(()) => {}
+            Err(fault) => println!(rt; "  {fault}")?,
+        }
     }
-    let rows = watch.play(&mut cells, &soak, 3, 3).rows;
-    println!(rt; "  {rows} row taken of poll 3")?;
     match watch.ask(&cells)? {
         Answer::Waiting { rows } => println!(rt; "  {rows} rows to come")?,
         Answer::At { poll, margin } => {

@@ -12,8 +12,8 @@ use Rattle.layout.specs.Steps.{steps_of}
 use Rattle.watches.specs.Calls.{most_rows, refusal}
 use Rattle.watches.specs.Faults.{at_poll}
 use Rattle.watches.specs.Readings.{reads_head, step_fault, reading_fault, first_fault, row_fault, steps_at, row}
-use Rattle.watches.specs.declared.faults.WatchFault.{WatchFault}
-use Rattle.watches.specs.declared.faults.WatchFault.TheVariants.{TooFewCells, Full}
+use Rattle.watches.specs.declared.refusals.WatchFault.{WatchFault}
+use Rattle.watches.specs.declared.refusals.WatchFault.TheVariants.{TooFewCells, Full}
 
 -- the excerpt of all polls from the first to the last reads what the record reads
 pub same_reading : {Reading : Type 0} (rm : RecordModel Reading) (first count most t : ℕ) → most ≡ min count 4294967295 → t < count → (h : ℕ) → (excerpt_record rm first most).at h t ≡ rm.at h (first + t)

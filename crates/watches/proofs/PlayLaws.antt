@@ -8,10 +8,11 @@ use Rattle.scales.specs.Model.{ScaleModel}
 use Rattle.layout.specs.Rows.{Row, cells_of}
 use Rattle.watches.specs.Calls.{most_rows, refusal, unless, play_fault, play_rows, polls_to}
 use Rattle.watches.specs.Faults.{at_poll}
-use Rattle.watches.specs.Readings.{row_fault, row, rows_from}
+use Rattle.watches.specs.Readings.{row_fault, row}
+use Rattle.watches.specs.Surveys.{rows_from}
 use Rattle.watches.specs.Watching.{Holds, Stepped, Played}
-use Rattle.watches.specs.declared.faults.WatchFault.{WatchFault}
-use Rattle.watches.specs.declared.faults.WatchFault.TheVariants.{TooFewCells, Full}
+use Rattle.watches.specs.declared.refusals.WatchFault.{WatchFault}
+use Rattle.watches.specs.declared.refusals.WatchFault.TheVariants.{TooFewCells, Full}
 use Rattle.watches.specs.declared.watch.Watch.{Watch}
 use Rattle.watches.proofs.ExcerptLaws.{same_row, same_refusal}
 use Rattle.watches.proofs.RowFaults.{none_told, some_told}

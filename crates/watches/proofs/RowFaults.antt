@@ -11,8 +11,8 @@ use Rattle.layout.specs.Rows.{cells_of}
 use Rattle.layout.specs.Shape.{shape}
 use Rattle.layout.specs.Steps.{row_at, steps_of, Lit}
 use Rattle.watches.specs.Readings.{reads_head, cells_fault, step_fault, reading_fault, first_fault, row_fault, steps_at, row}
-use Rattle.watches.specs.declared.faults.WatchFault.{WatchFault}
-use Rattle.watches.specs.declared.faults.WatchFault.TheVariants.{TooFewCells}
+use Rattle.watches.specs.declared.refusals.WatchFault.{WatchFault}
+use Rattle.watches.specs.declared.refusals.WatchFault.TheVariants.{TooFewCells}
 use Rattle.watches.proofs.HeadOrder.{First}
 
 pub none_told : (o : Option WatchFault) → Ok tt ≡ checked o → o ≡ None

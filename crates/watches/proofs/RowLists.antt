@@ -6,7 +6,8 @@ use Rattle.records.specs.Model.{RecordModel}
 use Rattle.rules.specs.declared.rule.Rule.{Rule}
 use Rattle.scales.specs.Model.{ScaleModel}
 use Rattle.layout.specs.Rows.{signal}
-use Rattle.watches.specs.Readings.{row, rows_from}
+use Rattle.watches.specs.Readings.{row}
+use Rattle.watches.specs.Surveys.{rows_from}
 
 module _ {Reading Margin : Type 0} (sm : ScaleModel Reading Margin) (rule : Rule) (rm : RecordModel Reading) (t : ℕ) where
   pub no_rows : rows_from sm rule rm t 0 ≡ []

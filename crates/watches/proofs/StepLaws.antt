@@ -11,7 +11,7 @@ use Rattle.layout.proofs.Holdings.{holds_none}
 use Rattle.watches.specs.Calls.{most_rows, refusal}
 use Rattle.watches.specs.Readings.{row_fault, row}
 use Rattle.watches.specs.Watching.{Holds, Made, Cleared, Written, Stepped}
-use Rattle.watches.specs.declared.faults.WatchFault.TheVariants.{Full}
+use Rattle.watches.specs.declared.refusals.WatchFault.TheVariants.{Full}
 use Rattle.watches.specs.declared.watch.Watch.{Watch}
 use Rattle.watches.proofs.RowFaults.{none_told, row_lit}
 

@@ -16,21 +16,21 @@ use Rattle.layout.specs.Steps.{row_at}
 use Rattle.layout.proofs.Holdings.{holds_none}
 use Rattle.layout.proofs.Shapes.{formed}
 use Rattle.std.specs.Option.{option_or}
-use Rattle.watches.specs.Readings.{reads_head, row_fault, steps_at, row, rows_from}
-use Rattle.watches.specs.Surveys.{faults_from, polls_fault, or_fault, survey_fault, Taken, Surveyed}
-use Rattle.watches.specs.declared.faults.WatchFault.{WatchFault}
-use Rattle.watches.specs.declared.faults.WatchFault.TheVariants.{TooFewCells, PastTheEnd}
+use Rattle.watches.specs.Readings.{reads_head, row_fault, steps_at, row}
+use Rattle.watches.specs.Surveys.{polls_fault, rows_from, or_fault, survey_fault, Taken, Surveyed}
+use Rattle.watches.specs.declared.refusals.WatchFault.{WatchFault}
+use Rattle.watches.specs.declared.refusals.WatchFault.TheVariants.{TooFewCells, PastTheEnd}
 use Rattle.watches.proofs.RowFaults.{none_told, some_told, row_lit}
 use Rattle.watches.proofs.RowLists.{no_rows, more_rows, length_rows, row_of}
 
 module _ {Reading Margin : Type 0} (sm : ScaleModel Reading Margin) (rule : Rule) (rm : RecordModel Reading) (t : ℕ) where
   -- ---- the faults of the polls
   pub no_polls : polls_fault sm rule rm t 0 ≡ None
-  unfolding faults_from
+  unfolding polls_fault
   no_polls = refl
 
   next : (n : ℕ) → polls_fault sm rule rm t (suc n) ≡ option_or (polls_fault sm rule rm t n) (row_fault sm rule rm (t + n))
-  unfolding faults_from
+  unfolding polls_fault
   next n = refl
 
   at_next : (n : ℕ) → polls_fault sm rule rm t n ≡ None → polls_fault sm rule rm t (n + 1) ≡ row_fault sm rule rm (t + n)

@@ -19,7 +19,7 @@ use Rattle.watches.specs.Watching.{Holds, Asked}
 use Rattle.watches.specs.Worth.{TrueRecord, Within, DefinedNearSafeTight, AfterEveryRun}
 use Rattle.watches.specs.declared.answers.Answer.{Answer}
 use Rattle.watches.specs.declared.answers.Answer.TheVariants.{Waiting, At}
-use Rattle.watches.specs.declared.faults.WatchFault.{WatchFault}
+use Rattle.watches.specs.declared.refusals.WatchFault.{WatchFault}
 use Rattle.watches.specs.declared.watch.Watch.{Watch}
 use Rattle.watches.proofs.PlayLaws.{along}
 use Rattle.watches.proofs.RunLaws.{stands}

@@ -3,8 +3,8 @@ use Rattle.std.specs.Prelude.{ℕ}
 use Rattle.faults.specs.declared.grounds.Ground.{Ground}
 use Rattle.faults.specs.declared.layers.Layer.TheVariants.{Watch}
 use Rattle.faults.specs.declared.places.Place.TheVariants.{Whole, Reading}
-use Rattle.watches.specs.declared.faults.WatchFault.{WatchFault}
-use Rattle.watches.specs.declared.faults.WatchFault.TheVariants.{TooFewCells, Full, PastTheEnd, NoReading, Unlawful}
+use Rattle.watches.specs.declared.refusals.WatchFault.{WatchFault}
+use Rattle.watches.specs.declared.refusals.WatchFault.TheVariants.{TooFewCells, Full, PastTheEnd, NoReading, Unlawful}
 
 -- a ground against the whole call, and one against a reading
 abbrev pub at_whole : ℕ → Ground

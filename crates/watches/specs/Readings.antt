@@ -3,8 +3,7 @@
 --     reading_fault  why a reading cannot be taken
 --     row_fault      the first fault of the heads that the rule reads
 --     row            the steps of those heads
---     rows_from      the rows of several polls
-use Rattle.std.specs.Prelude.{ℕ, zero, suc, ◌+◌, Bool, cond, List, [], ◌∷◌, ◌++◌, ℤ, pos, Some, None, Option, nat_lt}
+use Rattle.std.specs.Prelude.{ℕ, zero, suc, Bool, cond, ℤ, pos, Some, None, Option, nat_lt}
 use Rattle.std.specs.Option.{unwrap_or, option_or}
 use Rattle.entries.specs.Heads.{head_total}
 use Rattle.formulas.specs.Formula.{reads}
@@ -14,8 +13,8 @@ use Rattle.rules.specs.declared.rule.Rule.{Rule}
 use Rattle.scales.specs.Model.{ScaleModel}
 use Rattle.layout.specs.Rows.{Row, cells_of}
 use Rattle.layout.specs.Steps.{steps_of}
-use Rattle.watches.specs.declared.faults.WatchFault.{WatchFault}
-use Rattle.watches.specs.declared.faults.WatchFault.TheVariants.{TooFewCells, NoReading, Unlawful}
+use Rattle.watches.specs.declared.refusals.WatchFault.{WatchFault}
+use Rattle.watches.specs.declared.refusals.WatchFault.TheVariants.{TooFewCells, NoReading, Unlawful}
 
 -- the heads that the rule reads
 abbrev pub reads_head : Rule → ℕ → Bool
@@ -39,12 +38,9 @@ unfoldable pub first_fault : (ℕ → Bool) → (ℕ → Option WatchFault) → 
 first_fault read fault zero = None
 first_fault read fault (suc n) = option_or (first_fault read fault n) (cond (read n) (fault n) None)
 
--- the first fault of a poll at the heads that are read, by head
-abbrev pub heads_fault : {Reading Margin : Type 0} → ScaleModel Reading Margin → (ℕ → Bool) → RecordModel Reading → ℕ → Option WatchFault
-heads_fault sm read rm poll = first_fault read (λ h. reading_fault sm h poll (rm.at h poll)) head_total
-
+-- the first fault of a poll, by head
 abbrev pub row_fault : {Reading Margin : Type 0} → ScaleModel Reading Margin → Rule → RecordModel Reading → ℕ → Option WatchFault
-row_fault sm rule rm poll = heads_fault sm (reads_head rule) rm poll
+row_fault sm rule rm poll = first_fault (reads_head rule) (λ h. reading_fault sm h poll (rm.at h poll)) head_total
 
 -- the steps of a head at a poll
 abbrev pub steps_at : {Reading Margin : Type 0} → ScaleModel Reading Margin → RecordModel Reading → ℕ → ℕ → ℤ
@@ -53,8 +49,3 @@ steps_at sm rm poll head = unwrap_or (steps_of sm (rm.at head poll)) (pos 0)
 -- the row that a poll of a record makes: the steps of the heads that the rule reads
 abbrev pub row : {Reading Margin : Type 0} → ScaleModel Reading Margin → Rule → RecordModel Reading → ℕ → Row
 row sm rule rm poll head = cond (reads_head rule head) (steps_at sm rm poll head) (pos 0)
-
--- the rows of n polls from poll t on
-unfoldable pub rows_from : {Reading Margin : Type 0} → ScaleModel Reading Margin → Rule → RecordModel Reading → ℕ → ℕ → List Row
-rows_from sm rule rm t zero = []
-rows_from sm rule rm t (suc n) = rows_from sm rule rm t n ++ (row sm rule rm (t + n) ∷ [])

@@ -11,7 +11,7 @@ use Rattle.watches.specs.Calls.{after_step, after_play}
 use Rattle.watches.specs.Watching.{Made, Stepped, Played, Asked, Cleared}
 use Rattle.watches.specs.declared.answers.Answer.{Answer}
 use Rattle.watches.specs.declared.answers.Play.{Play}
-use Rattle.watches.specs.declared.faults.WatchFault.{WatchFault}
+use Rattle.watches.specs.declared.refusals.WatchFault.{WatchFault}
 use Rattle.watches.specs.declared.watch.Watch.{Watch}
 
 pub data Call (Reading : Type 0) : Type 0 where

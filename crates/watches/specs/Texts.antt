@@ -2,8 +2,8 @@
 use Rattle.std.specs.Prelude.{ℕ, List, ◌++◌, codes, decimal}
 use Rattle.faults.specs.Texts.{ground_text}
 use Rattle.watches.specs.Faults.{watch_ground}
-use Rattle.watches.specs.declared.faults.WatchFault.{WatchFault}
-use Rattle.watches.specs.declared.faults.WatchFault.TheVariants.{TooFewCells, Full, PastTheEnd, NoReading, Unlawful}
+use Rattle.watches.specs.declared.refusals.WatchFault.{WatchFault}
+use Rattle.watches.specs.declared.refusals.WatchFault.TheVariants.{TooFewCells, Full, PastTheEnd, NoReading, Unlawful}
 
 -- what is wrong, after the ground
 abbrev pub watch_words : WatchFault → List ℕ

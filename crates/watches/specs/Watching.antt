@@ -13,7 +13,7 @@ use Rattle.watches.specs.Calls.{refusal, after_step, play_fault, play_rows, poll
 use Rattle.watches.specs.Readings.{row}
 use Rattle.watches.specs.declared.answers.Answer.{Answer}
 use Rattle.watches.specs.declared.answers.Play.{Play}
-use Rattle.watches.specs.declared.faults.WatchFault.{WatchFault}
+use Rattle.watches.specs.declared.refusals.WatchFault.{WatchFault}
 use Rattle.watches.specs.declared.watch.Watch.{Watch}
 
 -- n rows and the cells stand for the accepted rows

@@ -15,7 +15,7 @@ use Rattle.watches.specs.Readings.{reads_head}
 use Rattle.watches.specs.Runs.{Call, accepted, Run}
 use Rattle.watches.specs.declared.answers.Answer.{Answer}
 use Rattle.watches.specs.declared.answers.Answer.TheVariants.{At}
-use Rattle.watches.specs.declared.faults.WatchFault.{WatchFault}
+use Rattle.watches.specs.declared.refusals.WatchFault.{WatchFault}
 use Rattle.watches.specs.declared.watch.Watch.{Watch}
 
 -- for each row and head any whole number of steps, however large

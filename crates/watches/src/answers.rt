@@ -1,5 +1,5 @@
 // What a watch answers.
-use crate::faults::WatchFault;
+use crate::refusals::WatchFault;
 
 // The answer to ask.
 #[derive(Clone, Copy, PartialEq, Eq, Debug)]

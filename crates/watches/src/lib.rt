@@ -2,14 +2,14 @@
 #![tactic(auto)]
 
 mod answers;
-mod faults;
 mod readings;
+mod refusals;
 mod surveys;
 #[cfg(test)]
 mod tests;
 mod watch;
 
 pub use answers::{Answer, Play};
-pub use faults::{ROWS, WatchFault};
+pub use refusals::{ROWS, WatchFault};
 pub use surveys::survey;
 pub use watch::Watch;

@@ -3,7 +3,7 @@ ghost use Rattle.std.specs.Prelude.{◌≡◌, is_some};
 ghost use Rattle.faults.specs.Checks.{checked};
 ghost use Rattle.watches.specs.Readings.{cells_fault, reading_fault, row_fault};
 
-use crate::faults::WatchFault;
+use crate::refusals::WatchFault;
 use records::Record;
 use rules::Rule;
 use scales::{Limit, Scale, Sense};

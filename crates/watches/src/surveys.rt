@@ -5,8 +5,8 @@ ghost use Rattle.formulas.specs.Formula.{horizon as horizon_of};
 ghost use Rattle.rules.specs.Rules.{formula};
 ghost use Rattle.watches.specs.Surveys.{polls_fault, survey_fault, Taken, Surveyed};
 
-use crate::faults::WatchFault;
 use crate::readings::{check_cells, check_row};
+use crate::refusals::WatchFault;
 use layout::{latest_margin, take_row};
 use records::Record;
 use rules::Rule;

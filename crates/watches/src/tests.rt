@@ -1,6 +1,6 @@
 // A window 0 to 3, share 500, of head 0 at least 8, watched and surveyed.
 use crate::answers::Answer;
-use crate::faults::WatchFault;
+use crate::refusals::WatchFault;
 use crate::surveys::survey;
 use crate::watch::Watch;
 use entries::{Entry, HEAD_TEST, HeadSet, WINDOW};

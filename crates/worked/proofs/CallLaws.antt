@@ -9,7 +9,7 @@ use Rattle.watches.specs.Watching.{Made, Stepped, Played, Asked, Cleared}
 use Rattle.watches.specs.Worth.{DefinedNearSafeTight, AfterEveryRun}
 use Rattle.watches.specs.declared.answers.Answer.{Answer}
 use Rattle.watches.specs.declared.answers.Play.{Play}
-use Rattle.watches.specs.declared.faults.WatchFault.{WatchFault}
+use Rattle.watches.specs.declared.refusals.WatchFault.{WatchFault}
 use Rattle.watches.specs.declared.watch.Watch.{Watch}
 use Rattle.worked.specs.Calls.{begun_anew}
 

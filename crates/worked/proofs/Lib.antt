@@ -2,3 +2,4 @@
 pub mod CallLaws
 pub mod TableLaws
 pub mod WanderLaws
+pub mod ZoneLaws

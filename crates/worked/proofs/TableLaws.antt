@@ -12,14 +12,13 @@ use Rattle.scales.specs.Counts.{counts}
 use Rattle.scales.specs.Grid.{grid_whole, on_grid}
 use Rattle.scales.specs.Obscuration.{obscuration}
 use Rattle.scales.specs.Panel.{panel}
-use Rattle.watches.specs.Calls.{reply_of}
 use Rattle.watches.specs.Readings.{first_fault, steps_at}
-use Rattle.watches.specs.Surveys.{faults_from, surveyed_of}
 use Rattle.watches.specs.declared.answers.Answer.{Answer}
 use Rattle.watches.specs.declared.answers.Answer.TheVariants.{Waiting, At}
-use Rattle.watches.specs.declared.faults.WatchFault.{WatchFault}
-use Rattle.watches.specs.declared.faults.WatchFault.TheVariants.{TooFewCells, Full, PastTheEnd, NoReading, Unlawful}
+use Rattle.watches.specs.declared.refusals.WatchFault.{WatchFault}
+use Rattle.watches.specs.declared.refusals.WatchFault.TheVariants.{TooFewCells, Full, PastTheEnd, NoReading, Unlawful}
 use Rattle.worked.specs.Table.{Line, gives, needs, ranks, answers, surveys, obscures, at_least, Right, table}
+use Rattle.worked.specs.Zones.{reply_of, faults_from, surveyed_of}
 
 abbrev same_number : ℤ → ℤ → Bool
 same_number a b = le_z a b && le_z b a

@@ -14,7 +14,7 @@ use Rattle.watches.specs.Worth.{DefinedNearSafeTight, AfterEveryRun, verdict_at}
 use Rattle.watches.specs.declared.answers.Answer.{Answer}
 use Rattle.watches.specs.declared.answers.Answer.TheVariants.{Waiting, At}
 use Rattle.watches.specs.declared.answers.Play.{Play}
-use Rattle.watches.specs.declared.faults.WatchFault.{WatchFault}
+use Rattle.watches.specs.declared.refusals.WatchFault.{WatchFault}
 use Rattle.watches.specs.declared.watch.Watch.{Watch}
 use Rattle.watches.proofs.WorthLaws.{answered_poll}
 use Rattle.worked.specs.Wander.{less_one, wander, SafeTo, Wanders}

@@ -12,7 +12,7 @@ use Rattle.watches.specs.Calls.{reply}
 use Rattle.watches.specs.Worth.{TrueRecord, Within, verdict_at}
 use Rattle.watches.specs.declared.answers.Answer.{Answer}
 use Rattle.watches.specs.declared.answers.Answer.TheVariants.{Waiting, At}
-use Rattle.watches.specs.declared.faults.WatchFault.{WatchFault}
+use Rattle.watches.specs.declared.refusals.WatchFault.{WatchFault}
 
 abbrev pub less_one : ℕ → Option ℕ
 less_one zero = None

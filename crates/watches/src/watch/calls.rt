@@ -5,8 +5,8 @@ ghost use Rattle.watches.specs.Watching.{Made, Cleared, Written, Stepped, Asked}
 ghost use Rattle.watches.specs.Worth.{AfterEveryRun};
 
 use crate::answers::Answer;
-use crate::faults::{ROWS, WatchFault};
 use crate::readings::{check_cells, check_row};
+use crate::refusals::{ROWS, WatchFault};
 use crate::watch::Watch;
 use layout::{latest_margin, take_row};
 use records::Record;

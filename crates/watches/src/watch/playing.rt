@@ -5,7 +5,7 @@ ghost use Rattle.watches.specs.Faults.{at_poll};
 ghost use Rattle.watches.specs.Watching.{Played};
 
 use crate::answers::Play;
-use crate::faults::WatchFault;
+use crate::refusals::WatchFault;
 use crate::watch::Watch;
 use records::{Excerpt, Record};
 use scales::Scale;

@@ -4,7 +4,7 @@ use Rattle.faults.specs.Checks.{checked}
 use Rattle.entries.specs.Heads.{heads}
 use Rattle.entries.proofs.Listing.{low_head}
 use Rattle.watches.specs.Readings.{reads_head, reading_fault}
-use Rattle.watches.specs.declared.faults.WatchFault.{WatchFault}
+use Rattle.watches.specs.declared.refusals.WatchFault.{WatchFault}
 use Rattle.watches.proofs.HeadOrder.{first_some, first_none}
 use Rattle.watches.proofs.RowFaults.{none_yet, fault_here, none_here, none_left, none_told, some_told}
 use Rattle.watches.proofs.readings.check_row.Goals as goal

@@ -6,7 +6,7 @@ use Rattle.layout.specs.Steps.{row_at, WorkedOut}
 use Rattle.layout.proofs.Shapes.{tests_place}
 use Rattle.layout.proofs.Moves.{known}
 use Rattle.layout.proofs.Workings.{fair, work_zone, work_not, work_either, work_both, work_window}
-use Rattle.layout.proofs.entries.work_out.Goals as goal
+use Rattle.layout.proofs.entering.work_out.Goals as goal
 
 pub zone_margin-requires : goal.zone_margin-requires
 zone_margin-requires g c =

@@ -1,6 +1,6 @@
 use Rattle.std.proofs.Common.{◌+◌, ◌-◌, arith}
 use Rattle.layout.specs.Shape.{shape}
-use Rattle.layout.proofs.entries.operand.Goals as goal
+use Rattle.layout.proofs.entering.operand.Goals as goal
 
 pub returns : goal.returns
 returns g c whole want r =

@@ -1,6 +1,6 @@
 use Rattle.std.proofs.Common.{◌≡◌, ap, ◌∙◌}
 use Rattle.watches.specs.Faults.{watch_ground, at_whole, at_reading}
-use Rattle.watches.proofs.faults.WatchFaultDisplay.fmt.Goals as goal
+use Rattle.watches.proofs.refusals.WatchFaultDisplay.fmt.Goals as goal
 
 pub returns-in-TooFewCells-clause-writes : goal.returns-in-TooFewCells-clause-writes
 returns-in-TooFewCells-clause-writes g c =

@@ -3,7 +3,7 @@ use Rattle.layout.specs.Shape.{shape}
 use Rattle.layout.specs.Steps.{row_at, Entered}
 use Rattle.layout.proofs.Moves.{ring_place}
 use Rattle.layout.proofs.Workings.{entered_none, entered_one}
-use Rattle.layout.proofs.entries.enter.Goals as goal
+use Rattle.layout.proofs.entering.enter.Goals as goal
 
 pub returns-in_default : goal.returns-in_default
 returns-in_default g c =

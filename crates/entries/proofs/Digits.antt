@@ -1,5 +1,5 @@
 -- The lowest bit that is set, and the first head that it is. Assumes nothing.
-use Rattle.std.proofs.Common.{◌≡◌, ℕ, zero, suc, ◌+◌, ◌-◌, ◌/◌, ◌%◌, ◌^◌, ◌<◌, ◌≤◌, true, false, eqb, ◌⊎◌, Some, None, sym, refl, ap, ◌∙◌, ⊎_elim, div-one, one-add, arith}
+use Rattle.std.proofs.Common.{◌≡◌, ℕ, zero, suc, ◌+◌, ◌-◌, ◌/◌, ◌%◌, ◌^◌, ◌<◌, ◌≤◌, true, false, eqb, Some, None, sym, refl, ap, ◌∙◌, ⊎_elim, div-one, one-add, arith}
 use lib.Count.{count_trailing_zeros, under}
 use Rattle.std.proofs.lemmas.Nat.{shr-shr, mod_below}
 use Rattle.std.proofs.lemmas.Bool.{cases_lt, both_ways}

@@ -1,5 +1,5 @@
 -- The pass over the entries: the step of each, with what leaves the window after it read before. Assumes nothing.
-use Rattle.std.proofs.Common.{◌≡◌, ℕ, suc, ◌+◌, ◌-◌, ◌*◌, ◌<◌, ◌≤◌, List, length, drop, ℤ, Option, refl, ap, ◌∙◌, arith}
+use Rattle.std.proofs.Common.{◌≡◌, ℕ, suc, ◌+◌, ◌*◌, ◌<◌, ◌≤◌, List, length, drop, ℤ, Option, refl, ap, ◌∙◌, arith}
 use Rattle.scales.specs.Model.{ScaleModel}
 use Rattle.formulas.specs.Margin.{Signal}
 use Rattle.rules.specs.Nodes.{NodeModel, HeadTest, ZoneTest, Not, Either, Both, Window}

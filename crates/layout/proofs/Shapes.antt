@@ -22,7 +22,6 @@ use Rattle.rules.specs.Needs.{widths, zone_tested}
 use Rattle.rules.specs.Needs as rule_need
 use Rattle.rules.specs.Nodes.{NodeModel, HeadTest, ZoneTest, Not, Either, Both, Window, node_of, node_by}
 use Rattle.rules.specs.Parts.{Operands}
-use Rattle.rules.specs.Nodes as nodes
 use Rattle.rules.specs.Rules.{zone, listed, formula, part}
 use Rattle.rules.specs.Spelling.{entries, spelled}
 use Rattle.rules.specs.Totals.{any, sum, tests_zone, entry_width}

@@ -1,10 +1,9 @@
 -- What a grid's numbers give. Assumes nothing.
-use Rattle.std.proofs.Common.{◌≡◌, ℕ, ◌+◌, ◌*◌, ◌<◌, ◌≤◌, Bool, true, false, cond, eqb, List, length, get_or, Some, None, sym, refl, ap, ◌∙◌, arith}
+use Rattle.std.proofs.Common.{◌≡◌, ℕ, ◌+◌, ◌*◌, ◌<◌, Bool, true, false, cond, eqb, List, length, get_or, Some, None, sym, refl, ap, ◌∙◌, arith}
 use Rattle.std.specs.List.{slice_get}
 use Rattle.std.proofs.lemmas.Nat.{mul-add-lt}
 use Rattle.std.proofs.lemmas.Option.{slice_get-get_or}
 use Rattle.std.proofs.lemmas.Bool.{eqb-true}
-use Rattle.records.specs.Model.{RecordModel, empty_record, unless, most_heads, most_polls}
 use Rattle.records.specs.Limits.{numbers_fault}
 use Rattle.records.specs.Grid.{grid_fault, grid_kept, grid_record}
 use Rattle.records.specs.declared.refusals.RecordFault.{RecordFault}

@@ -1,5 +1,5 @@
 -- A log passes its check exactly if it is lawful, and then tells what its entries say. Assumes nothing.
-use Rattle.std.proofs.Common.{◌≡◌, ℕ, zero, suc, ◌+◌, ◌<◌, ◌≤◌, Bool, true, false, cond, ◌&&◌, ◌||◌, eqb, ltb, leb, ◌⊎◌, List, [], ◌∷◌, length, get_or, is_ok, Some, None, Decides, Option, Result, sym, refl, ap, ◌∙◌, subst, inl, inr, arith}
+use Rattle.std.proofs.Common.{◌≡◌, ℕ, zero, suc, ◌+◌, ◌<◌, ◌≤◌, true, false, cond, ◌&&◌, ◌||◌, eqb, ltb, leb, ◌⊎◌, List, [], ◌∷◌, length, get_or, is_ok, Some, None, Decides, Option, Result, sym, refl, ap, ◌∙◌, subst, inl, inr, arith}
 use Rattle.std.specs.Option.{option_or, option_map}
 use Rattle.std.proofs.lemmas.Bool.{leb-true, eqb-true, eq-eqb, le-leb, lt-leb, le-ltb, and_parts, and_from, or_parts, cond-false, cond-true, cases_Bool, cases_order, both_ways}
 use Rattle.std.proofs.lemmas.Bool.Decides.{nat_tests}
@@ -7,7 +7,7 @@ use Rattle.faults.specs.Checks.{checked}
 use Rattle.records.specs.declared.entries.LogEntry.{LogEntry}
 use Rattle.records.specs.declared.refusals.LogFault.{LogFault}
 use Rattle.records.specs.declared.refusals.LogFault.TheVariants.{Record, PollFalls, HeadTwice}
-use Rattle.records.specs.Model.{most_heads, most_polls, table}
+use Rattle.records.specs.Model.{most_heads, most_polls}
 use Rattle.records.specs.Limits.{numbers_fault}
 use Rattle.records.specs.Log.{floor, seen, place_fault, order_fault, entry_fault, first_fault, log_fault, log_record, says, tells_of, latest_entry}
 use Rattle.records.specs.Lookup.{blank, Rising}

@@ -1,7 +1,6 @@
 -- What a log that passed its check keeps. Assumes nothing.
-use Rattle.std.proofs.Common.{◌≡◌, ℕ, ◌<◌, ◌≤◌, true, ◌||◌, eqb, List, [], length, get_or, Some, None, Option, sym, refl, ap, ◌∙◌, arith}
+use Rattle.std.proofs.Common.{◌≡◌, ℕ, ◌<◌, ◌≤◌, true, List, [], length, get_or, Some, None, Option, sym, refl, ap, ◌∙◌, arith}
 use Rattle.std.specs.Option.{option_map}
-use Rattle.std.proofs.lemmas.Bool.{or_cases, eqb-true}
 use Rattle.std.proofs.lemmas.Bool.Decides.{nat_tests}
 use Rattle.records.specs.declared.entries.LogEntry.{LogEntry}
 use Rattle.records.specs.declared.refusals.RecordFault.{RecordFault}
@@ -10,7 +9,7 @@ use Rattle.records.specs.Model.{most_heads, most_polls}
 use Rattle.records.specs.Limits.{numbers_fault}
 use Rattle.records.specs.Log.{first_fault, log_fault, log_kept, log_record, says, latest_entry}
 use Rattle.records.specs.Lookup.{blank, Rising}
-use Rattle.records.specs.Marks.{Marked, is_index, marks_kept}
+use Rattle.records.specs.Marks.{Marked, marks_kept}
 use Rattle.records.proofs.ModelLaws.{neither, passed, numbers_fit, at_within}
 use Rattle.records.proofs.OrderLaws.{rises, heads_below}
 use Rattle.records.proofs.MarkLaws.{index_marked}

@@ -1,12 +1,11 @@
 -- What a record made by a check shows. Assumes nothing.
-use Rattle.std.proofs.Common.{◌≡◌, ℕ, ◌<◌, ◌≤◌, Bool, true, false, cond, not, ◌&&◌, ◌||◌, eqb, ltb, leb, is_some, Some, None, Ok, Err, Option, sym, refl, ◌∙◌, arith}
+use Rattle.std.proofs.Common.{◌≡◌, ℕ, ◌<◌, ◌≤◌, Bool, true, false, cond, not, ◌&&◌, ◌||◌, eqb, ltb, is_some, Some, None, Ok, Err, Option, refl, arith}
 use Rattle.std.specs.Option.{option_or}
 use Rattle.std.proofs.lemmas.Bool.{lt-ltb, and_from, cond-true, le-leb}
 use Rattle.std.proofs.lemmas.Bool.Decides.{nat_tests}
 use Rattle.faults.specs.Checks.{checked}
 use Rattle.records.specs.Model.{RecordModel, empty_record, unless, sized, table, table_if, most_heads, most_polls}
 use Rattle.records.specs.Limits.{numbers_fault}
-use Rattle.records.specs.declared.refusals.RecordFault.{RecordFault}
 use Rattle.records.specs.declared.refusals.RecordFault.TheVariants.{HeadsOutOfRange, TooManyPolls}
 
 module _ {F : Type 0} where

@@ -1,8 +1,8 @@
 -- What the check of a log's entries rests on. `bs` has the entries before one, the nearest first. Assumes nothing.
-use Rattle.std.proofs.Common.{◌≡◌, ℕ, zero, suc, ◌+◌, ◌<◌, ◌≤◌, Bool, true, false, cond, not, ◌&&◌, ◌||◌, eqb, ltb, leb, ◌⊎◌, List, [], ◌∷◌, ◌++◌, reverse, length, get_or, take, drop, set, Some, None, Ok, Err, Option, sym, refl, ap, ◌∙◌, inl, inr, arith}
+use Rattle.std.proofs.Common.{◌≡◌, ℕ, zero, suc, ◌+◌, ◌<◌, ◌≤◌, true, false, cond, eqb, ltb, leb, ◌⊎◌, List, [], ◌∷◌, reverse, length, get_or, take, drop, set, Some, None, Ok, Err, Option, sym, refl, ap, ◌∙◌, inl, inr, arith}
 use Rattle.std.specs.Option.{option_or}
 use Rattle.std.proofs.lemmas.List.{take_more, reverse-append, at_drop_more, get_or-set_same, get_or-set_other}
-use Rattle.std.proofs.lemmas.Bool.{leb-false, ltb-false, ltb-true, cases_eq, eq-eqb, ne_eqb, cond-false, cond-true, cases_Bool}
+use Rattle.std.proofs.lemmas.Bool.{leb-false, ltb-false, cases_eq, eq-eqb, ne_eqb, cond-false, cond-true, cases_Bool}
 use Rattle.std.proofs.lemmas.Bool.Decides.{nat_tests}
 use Rattle.records.specs.declared.entries.LogEntry.{LogEntry}
 use Rattle.records.specs.declared.refusals.LogFault.{LogFault}

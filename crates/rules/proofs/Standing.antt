@@ -12,7 +12,7 @@ use Rattle.rules.specs.Nodes.{node_by, node_at}
 use Rattle.rules.specs.Parts.{Part, Whole}
 use Rattle.rules.specs.Rules.{zone, listed, formula, part}
 use Rattle.rules.specs.Spans.{formula_at, no_span}
-use Rattle.rules.specs.Spelling.{entries, Spells}
+use Rattle.rules.specs.Spelling.{Spells}
 use Rattle.rules.specs.declared.rule.Rule.{Rule}
 use Rattle.rules.proofs.Assembling.{spells_formula, lawful_formula}
 use Rattle.rules.proofs.Depths.{near_at, ranged_at, reads_at}

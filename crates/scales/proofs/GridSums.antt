@@ -2,7 +2,7 @@
 use Rattle.std.proofs.Common.{◌≡◌, ℕ, ◌+◌, ◌-◌, ◌*◌, ◌^◌, ◌<◌, ◌≤◌, Bool, true, false, cond, not, ◌&&◌, T, ltb, ℤ, ◌+ℤ◌, ◌-ℤ◌, sym, refl, ap, ◌∙◌, subst, inl, inr, true≢false, mul-le-mul_right, eq-zero-or-pos, lt_of_mul-lt-mul_right, mul-lt-mul_of_pos_right, mul-pos, arith, lit<, le-ltb, lt-ltb}
 use mathlib.Core.Bool.{beq}
 use native.Mathlib.Nat.{mul-sub}
-use lib.Ieee.{Float, nan, inf, fin, binary32, up, down, round, sum, sub, lt, unlike}
+use lib.Ieee.{Float, nan, inf, fin, binary32, up, down, round, sum, sub}
 use lib.Ieee.Exact.{HasValue}
 use lib.Ieee.Scale.{round_same}
 use lib.Ieee.Fits.{down_pos}

@@ -1,13 +1,12 @@
 -- Comparisons of whole numbers of 256ths in binary32. Assumes nothing.
-use Rattle.std.proofs.Common.{◌≡◌, ℕ, zero, suc, ◌+◌, ◌*◌, ◌<◌, Bool, true, false, not, ◌||◌, T, eqb, ltb, ℤ, sym, refl, ap, ◌∙◌, subst, mul-pos, arith, eqb→eq, le-ltb, lt-ltb, eq-eqb}
+use Rattle.std.proofs.Common.{◌≡◌, ℕ, zero, suc, ◌+◌, ◌*◌, ◌<◌, Bool, true, false, ◌||◌, T, eqb, ltb, ℤ, sym, refl, ap, ◌∙◌, subst, mul-pos, arith, eqb→eq, le-ltb, lt-ltb, eq-eqb}
 use mathlib.Core.Bool.{beq, false≢true}
 use native.Mathlib.Nat.{eq_of_mul-eq-mul_right}
-use lib.Signed.{lt_z, le_z}
-use lib.Ieee.{Float, nan, inf, fin, up, down, round, lt, le, eq, below, level}
+use lib.Signed.{lt_z}
+use lib.Ieee.{Float, nan, inf, fin, up, down, lt, eq, below, level}
 use lib.Ieee.Exact.{HasValue}
 use lib.Ieee.Fits.{down_pos, and_l, and_r}
 use borrow.Author.Differences.{ints}
-use Rattle.std.proofs.lemmas.Bool.Decides.{nat_tests}
 use Rattle.scales.specs.Grid.{signed, grid_whole, on_grid}
 use Rattle.scales.proofs.GridValues.{grid_value}
 use Rattle.scales.proofs.GridSums.{less_as}

@@ -1,6 +1,6 @@
 -- The scale of verdicts over another scale. Assumes nothing.
 use Rattle.std.specs.Prelude.{◌≡◌, ℕ, zero, suc, ◌≤◌, Bool, true, false, cond, ℤ, pos, negsuc, int_le}
-use Rattle.std.proofs.Common.{ap, subst, arith}
+use Rattle.std.proofs.Common.{subst, arith}
 use Rattle.std.proofs.lemmas.Int.{ints}
 use Rattle.scales.specs.Model.{ScaleModel, distance}
 use Rattle.scales.specs.declared.verdict.VerdictMargin.{VerdictMargin}

@@ -1,8 +1,8 @@
 -- A step over an excerpt is a step over the record, its fault told at the record's own poll. Assumes nothing.
-use Rattle.std.proofs.Common.{◌≡◌, ℕ, zero, suc, ◌+◌, ◌-◌, ◌<◌, ◌≤◌, min, Bool, true, false, cond, ltb, leb, ℤ, pos, Some, None, Option, unwrap_or, sym, refl, ap, ◌∙◌, ap₂, ⊎_elim, arith}
+use Rattle.std.proofs.Common.{◌≡◌, ℕ, zero, suc, ◌+◌, ◌<◌, min, Bool, true, false, cond, ltb, leb, ℤ, pos, Some, None, Option, unwrap_or, sym, refl, ap, ◌∙◌, ap₂, ⊎_elim, arith}
 use mathlib.Core.Path.{fun_ext}
 use Rattle.std.specs.Option.{option_map, option_or}
-use Rattle.std.proofs.lemmas.Bool.{lt-ltb, le-ltb, cond-true, cond-false, cases_Bool, ltb-true, ltb-false}
+use Rattle.std.proofs.lemmas.Bool.{cond-true, cond-false, cases_Bool, ltb-false}
 use Rattle.records.specs.Excerpt.{left_from, excerpt_record}
 use Rattle.records.specs.Model.{RecordModel}
 use Rattle.rules.specs.declared.rule.Rule.{Rule}
@@ -11,7 +11,7 @@ use Rattle.layout.specs.Rows.{cells_of}
 use Rattle.layout.specs.Steps.{steps_of}
 use Rattle.watches.specs.Calls.{most_rows, refusal}
 use Rattle.watches.specs.Faults.{at_poll}
-use Rattle.watches.specs.Readings.{reads_head, step_fault, reading_fault, first_fault, row_fault, steps_at, row}
+use Rattle.watches.specs.Readings.{reads_head, step_fault, reading_fault, first_fault, row_fault, row}
 use Rattle.watches.specs.declared.refusals.WatchFault.{WatchFault}
 use Rattle.watches.specs.declared.refusals.WatchFault.TheVariants.{TooFewCells, Full}
 

@@ -1,5 +1,5 @@
 -- After every run of calls, the watch and the cells stand for the accepted rows. Assumes nothing.
-use Rattle.std.proofs.Common.{◌≡◌, ℕ, List, [], ◌∷◌, ◌++◌, length, sym, refl, ap, ◌∙◌, subst}
+use Rattle.std.proofs.Common.{◌≡◌, List, [], ◌++◌, length, ◌∙◌}
 use Rattle.rules.specs.declared.rule.Rule.{Rule}
 use Rattle.scales.specs.Model.{ScaleModel}
 use Rattle.layout.specs.Rows.{Row}

@@ -1,7 +1,6 @@
 -- The polls of a survey: their faults, and their rows. Assumes nothing.
-use Rattle.std.proofs.Common.{◌≡◌, ℕ, zero, suc, ◌+◌, ◌-◌, ◌<◌, ◌≤◌, Bool, true, false, cond, ltb, leb, List, [], ◌∷◌, ◌++◌, length, pos, Some, None, Ok, Err, Option, sym, refl, ap, ◌∙◌, subst, ⊎_elim, arith}
-use Rattle.std.proofs.lemmas.List.{length_push, get_or_push, get_or_append_left}
-use Rattle.std.proofs.lemmas.Bool.{le-ltb, le-leb, lt-leb, cond-true, cond-false, ltb-false, leb-false, cases_eq, false≢true}
+use Rattle.std.proofs.Common.{◌≡◌, ℕ, zero, suc, ◌+◌, ◌-◌, ◌<◌, ◌≤◌, Bool, true, false, cond, ltb, leb, List, [], ◌∷◌, ◌++◌, length, pos, Some, None, Ok, Err, Option, sym, refl, ap, ◌∙◌, subst, arith}
+use Rattle.std.proofs.lemmas.Bool.{le-ltb, le-leb, lt-leb, cond-true, cond-false, ltb-false, leb-false, false≢true}
 use Rattle.faults.specs.Checks.{checked}
 use Rattle.formulas.specs.Formula.{horizon}
 use Rattle.formulas.specs.Margin.{margin}

@@ -1,5 +1,5 @@
 -- What an answer is worth, from the laws of near signals. Assumes nothing.
-use Rattle.std.proofs.Common.{◌≡◌, ℕ, ◌+◌, ◌-◌, ◌<◌, ◌≤◌, Bool, true, false, cond, ltb, leb, List, ◌++◌, length, ℤ, pos, negsuc, nat_abs, ◌<ℤ◌, Ok, Err, Result, sym, refl, ap, ◌∙◌, subst, arith}
+use Rattle.std.proofs.Common.{◌≡◌, ℕ, ◌+◌, ◌-◌, ◌<◌, ◌≤◌, Bool, true, false, cond, ltb, leb, List, ◌++◌, length, ℤ, pos, nat_abs, ◌<ℤ◌, Ok, Err, Result, sym, refl, ap, ◌∙◌, subst, arith}
 use Rattle.std.proofs.lemmas.Bool.{leb-false}
 use Rattle.formulas.specs.Formula.{horizon}
 use Rattle.formulas.specs.Laws.{CloseFor}
@@ -14,7 +14,7 @@ use Rattle.scales.specs.Model.{ScaleModel, distance}
 use Rattle.layout.specs.Rows.{Row, signal, cells_of}
 use Rattle.layout.proofs.Shapes.{formed}
 use Rattle.watches.specs.Calls.{reply, meant}
-use Rattle.watches.specs.Runs.{Call, accepted, Run}
+use Rattle.watches.specs.Runs.{accepted}
 use Rattle.watches.specs.Watching.{Holds, Asked}
 use Rattle.watches.specs.Worth.{TrueRecord, Within, DefinedNearSafeTight, AfterEveryRun}
 use Rattle.watches.specs.declared.answers.Answer.{Answer}

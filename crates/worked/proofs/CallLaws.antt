@@ -1,5 +1,5 @@
 -- The calls of a soak begun anew, by their contracts: what its last answer is worth. Assumes nothing.
-use Rattle.std.proofs.Common.{◌≡◌, ℕ, ◌+◌, List, [], ◌∷◌, ◌++◌, length, Result, sym, refl, ap, ◌∙◌, subst, append-nil}
+use Rattle.std.proofs.Common.{◌≡◌, ℕ, ◌+◌, List, [], ◌∷◌, ◌++◌, length, Result, sym, ap, ◌∙◌, subst, append-nil}
 use Rattle.records.specs.Model.{RecordModel}
 use Rattle.rules.specs.declared.rule.Rule.{Rule}
 use Rattle.scales.specs.Model.{ScaleModel}

@@ -1,4 +1,4 @@
-use Rattle.std.proofs.Common.{◌-◌, arith}
+use Rattle.std.proofs.Common.{arith}
 use Rattle.layout.specs.Shape.{shape}
 use Rattle.layout.proofs.Moves.{known, take_in_more, take_in_turn}
 use Rattle.layout.proofs.windows.take_in.Goals as goal

@@ -1,4 +1,4 @@
-use Rattle.std.proofs.Common.{◌≡◌, ◌+◌, ◌-◌, length, ap, ◌∙◌, arith}
+use Rattle.std.proofs.Common.{◌≡◌, ◌+◌, length, ap, ◌∙◌, arith}
 use Rattle.entries.specs.Heads.{heads}
 use Rattle.layout.specs.Steps.{row_at}
 use Rattle.layout.specs.Shape.{shape}

@@ -1,6 +1,5 @@
 -- The walk back ends at the head's latest entry. Assumes nothing.
-use Rattle.std.proofs.Common.{sym, refl, ap, ◌∙◌, arith}
-use Rattle.records.specs.Log.{latest_entry}
+use Rattle.std.proofs.Common.{sym, ◌∙◌, arith}
 use Rattle.records.proofs.LookupLaws.{latest_upto, back_found, back_passed}
 use Rattle.records.proofs.lookup.latest.Goals as goal
 

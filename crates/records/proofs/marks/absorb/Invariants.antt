@@ -1,5 +1,5 @@
 -- The latest places are those before entry i. Assumes nothing.
-use Rattle.std.proofs.Common.{◌≡◌, ℕ, ◌<◌, ◌≤◌, length, get_or}
+use Rattle.std.proofs.Common.{◌≡◌, ℕ, ◌<◌, length, get_or}
 use Rattle.records.specs.Model.{most_heads}
 use Rattle.records.specs.Marks.{mark}
 use Rattle.records.proofs.marks.absorb.Given as goal

@@ -1,5 +1,5 @@
 -- The rows before b are right, and the latest places are those before row b. Assumes nothing.
-use Rattle.std.proofs.Common.{◌≡◌, ℕ, ◌+◌, ◌*◌, ◌<◌, ◌≤◌, min, length, get_or}
+use Rattle.std.proofs.Common.{◌≡◌, ℕ, ◌+◌, ◌*◌, ◌<◌, min, length, get_or}
 use Rattle.records.specs.Model.{most_heads}
 use Rattle.records.specs.Marks.{mark}
 use Rattle.records.proofs.marks.fill.Given as goal

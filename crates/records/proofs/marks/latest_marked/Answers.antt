@@ -1,5 +1,5 @@
 -- Where the walk finds nothing, the mark names the latest entry. Assumes nothing.
-use Rattle.std.proofs.Common.{◌≡◌, ◌+◌, ◌-◌, ◌*◌, ◌/◌, ◌<◌, ◌≤◌, length, get_or, take, sym, ap, ◌∙◌, arith, rules}
+use Rattle.std.proofs.Common.{◌≡◌, ◌+◌, ◌-◌, ◌*◌, ◌/◌, ◌<◌, length, get_or, take, sym, ap, ◌∙◌, arith, rules}
 use Rattle.records.specs.Log.{latest_entry}
 use Rattle.records.proofs.LookupLaws.{latest_upto, back_found, back_passed}
 use Rattle.records.proofs.MarkLaws.{at_mark, cell_below, mark_below, found_mark, at_nonzero}

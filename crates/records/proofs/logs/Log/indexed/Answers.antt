@@ -1,7 +1,6 @@
 -- The marks are filled only where they suffice, and are then the index. Assumes nothing.
-use Rattle.std.proofs.Common.{◌^◌, ◌<◌, ◌≤◌, true, eqb, length, arith, rules}
+use Rattle.std.proofs.Common.{◌^◌, ◌<◌, eqb, length, arith, rules}
 use Rattle.std.proofs.lemmas.Bool.{or_right}
-use Rattle.records.specs.Marks.{room}
 use Rattle.records.proofs.LogLaws.{kept_fits, kept_below}
 use Rattle.records.proofs.MarkLaws.{room_fits, marked_index}
 use Rattle.records.proofs.logs.Log.indexed.Goals as goal

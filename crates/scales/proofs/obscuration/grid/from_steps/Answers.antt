@@ -1,4 +1,4 @@
-use Rattle.std.proofs.Common.{◌≡◌, ℤ, sym, ap, ◌∙◌, subst, lit≤, to_z-of_z, w32, to_z, of_z, rules}
+use Rattle.std.proofs.Common.{◌≡◌, lit≤, to_z-of_z, w32, to_z, of_z, rules}
 use Rattle.scales.proofs.GridValues.{over_256, wider}
 use Rattle.scales.proofs.obscuration.grid.from_steps.Goals as goal
 

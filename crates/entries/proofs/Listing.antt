@@ -3,7 +3,7 @@ use Rattle.std.proofs.Common.{◌≡◌, ℕ, zero, suc, ◌^◌, ◌<◌, ◌�
 use mathlib.Core.Bool.{or_assoc, or-false}
 use Rattle.std.proofs.ByRecursion.{All-push, All-weaker}
 use Rattle.std.proofs.lemmas.Bool.{cases_order, cases_lt, both_ways, eq-eqb, ne_eqb, eqb-true, le-leb, lt-leb, lt-ltb, le-ltb, or_cases, or_right, cond-true, cond-false}
-use Rattle.std.specs.List.{AllByRecursion as All}
+use Rattle.std.specs.List.{AllByRecursion}
 use Rattle.formulas.specs.Formula.{among}
 use Rattle.entries.specs.Heads.{head_total, has, heads_below, heads, first_from, Rising}
 use Rattle.entries.proofs.Bits.{beyond}
@@ -60,23 +60,23 @@ pub low_head : (z h : ℕ) → z < 2 ^ head_total → among h (heads z) ≡ true
 low_head z h small e = ⊎_elim (λ (q : h < head_total). q) (λ (q : head_total ≤ h). absurd (both_ways _ (beyond z h small q) (sym (among_heads z h small) ∙ e))) (cases_lt h head_total)
 
 -- ---- they rise
-one_below : (n : ℕ) (b : Bool) (gs : List ℕ) → All (λ g. g < n) gs → All (λ g. g < suc n) (gs ++ cond b (n ∷ []) [])
+one_below : (n : ℕ) (b : Bool) (gs : List ℕ) → AllByRecursion (λ g. g < n) gs → AllByRecursion (λ g. g < suc n) (gs ++ cond b (n ∷ []) [])
 one_below n true gs a = All-push (λ g. g < suc n) gs n (All-weaker (λ g. g < n) (λ g. g < suc n) (λ g l. omega arith) gs a) (omega arith)
 one_below n false [] a = tt
 one_below n false (g ∷ gs) a = (omega (arith, a.0), one_below n false gs a.1)
 
-all_below : (z n : ℕ) → All (λ g. g < n) (heads_below z n)
+all_below : (z n : ℕ) → AllByRecursion (λ g. g < n) (heads_below z n)
 unfolding heads_below
 all_below z zero = tt
 all_below z (suc n) = one_below n (has z n) (heads_below z n) (all_below z n)
 
-one_rising : (n : ℕ) (b : Bool) (gs : List ℕ) → All (λ g. g < n) gs → Rising gs → Rising (gs ++ cond b (n ∷ []) [])
+one_rising : (n : ℕ) (b : Bool) (gs : List ℕ) → AllByRecursion (λ g. g < n) gs → Rising gs → Rising (gs ++ cond b (n ∷ []) [])
 one_rising n true [] a r = (tt, tt)
 one_rising n false [] a r = tt
 one_rising n true (g ∷ gs) a r = (All-push (λ h. g < h) gs n r.0 a.0, one_rising n true gs a.1 r.1)
 one_rising n false (g ∷ gs) a r = (left gs r.0, one_rising n false gs a.1 r.1)
   where
-    left : (hs : List ℕ) → All (λ h. g < h) hs → All (λ h. g < h) (hs ++ [])
+    left : (hs : List ℕ) → AllByRecursion (λ h. g < h) hs → AllByRecursion (λ h. g < h) (hs ++ [])
     left [] q = tt
     left (h ∷ hs) q = (q.0, left hs q.1)
 
@@ -90,7 +90,7 @@ unfolding heads
 rising z = rising_below z head_total
 
 -- ---- the first from n on
-all_among : (P : ℕ → Type 0) (gs : List ℕ) (h : ℕ) → All P gs → among h gs ≡ true → P h
+all_among : (P : ℕ → Type 0) (gs : List ℕ) (h : ℕ) → AllByRecursion P gs → among h gs ≡ true → P h
 all_among P [] h a e = absurd (both_ways _ refl e)
 all_among P (g ∷ gs) h a e = ⊎_elim (λ q. subst P (eqb-true g h q) a.0) (λ q. all_among P gs h a.1 q) (or_cases (eqb g h) (among h gs) e)
 

@@ -3,7 +3,7 @@
 --     SameHeads    two lists have the same heads
 --     first_from    the first of the heads at or after one
 use Rattle.std.specs.Prelude.{◌≡◌, ℕ, zero, suc, ◌/◌, ◌%◌, ◌^◌, ◌<◌, ◌≤◌, Bool, cond, List, [], ◌∷◌, ◌++◌, length, Some, None, Option, ◌==◌, nat_le, slice_index}
-use Rattle.std.specs.List.{AllByRecursion as All}
+use Rattle.std.specs.List.{AllByRecursion}
 use Rattle.formulas.specs.Formula.{among}
 
 -- heads are numbered from 0 to one below this
@@ -35,7 +35,7 @@ first_from n (g ∷ gs) = cond (nat_le n g) (Some g) (first_from n gs)
 -- each head is below those after it
 abbrev pub Rising : List ℕ → Type 0
 Rising [] = Unit {0}
-Rising (g ∷ gs) = All (λ h. g < h) gs × Rising gs
+Rising (g ∷ gs) = AllByRecursion (λ h. g < h) gs × Rising gs
 
 -- one of the numbers is no head
 abbrev pub SomeAbove : List ℕ → Type 0

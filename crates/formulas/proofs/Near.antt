@@ -1,6 +1,6 @@
 -- Margins of signals close to one another, or one later than the other. Assumes nothing.
 use Rattle.std.proofs.Common.{◌≡◌, ℕ, zero, suc, ◌+◌, ◌≤◌, List, ◌∷◌, map, length, ℤ, neg_ℤ, refl, ap, ◌∙◌, ap₂, arith}
-use Rattle.std.specs.List.{range_with_len, AllByRecursion as All}
+use Rattle.std.specs.List.{range_with_len, AllByRecursion}
 use Rattle.std.specs.Int.{int_max, int_min}
 use Rattle.std.proofs.lemmas.List.{length-map}
 use Rattle.std.proofs.lemmas.Int.{ints, clamps}
@@ -19,7 +19,7 @@ use Rattle.formulas.specs.Meaning.{AlikeFor}
 use Rattle.formulas.specs.Laws.{CloseFor, MarginNear, MarginLater}
 use Rattle.formulas.proofs.Stretches.{all_polls, all_among, rank_first, rank_last}
 
-near_stretch : {I : Type 0} (k c : ℕ) (f g : I → ℤ) (is : List I) → 1 ≤ k → k ≤ length is → All (λ i. distance (f i) (g i) ≤ c) is → distance (kth k (map f is)) (kth k (map g is)) ≤ c
+near_stretch : {I : Type 0} (k c : ℕ) (f g : I → ℤ) (is : List I) → 1 ≤ k → k ≤ length is → AllByRecursion (λ i. distance (f i) (g i) ≤ c) is → distance (kth k (map f is)) (kth k (map g is)) ≤ c
 near_stretch k c f g is lo hi a = kth_near k c (map f is) (map g is) lo (omega (arith, length-map is f)) (each_map (λ x y. distance x y ≤ c) f g is a)
 
 module _ (mark : ℤ → ℤ) (d c : ℕ) (law : (a b : ℤ) → distance a b ≤ d → distance (mark a) (mark b) ≤ c) where

@@ -1,7 +1,7 @@
 -- A signal just far enough away to turn the verdict. Assumes nothing.
 use Rattle.std.proofs.Common.{◌≡◌, ℕ, ◌+◌, ◌≤◌, Bool, true, false, not, eqb, List, map, length, ℤ, ◌+ℤ◌, neg_ℤ, nat_abs, sym, refl, ap, ◌∙◌, inl, inr, ⊎_elim, arith}
 use Rattle.std.specs.Int.{int_max, int_min}
-use Rattle.std.specs.List.{AllByRecursion as All}
+use Rattle.std.specs.List.{AllByRecursion}
 use Rattle.std.proofs.lemmas.List.{length-map}
 use Rattle.std.proofs.lemmas.Int.{ints, clamps}
 use Rattle.std.proofs.lemmas.Bool.{eq-eqb, or_left, or_right, and_from, cases_Bool}
@@ -32,7 +32,7 @@ same_self : (b : Bool) → same b b ≡ true
 same_self true = refl
 same_self false = refl
 
-moved_stretch : {I : Type 0} (k : ℕ) (c : ℤ) (f g : I → ℤ) (is : List I) → 1 ≤ k → k ≤ length is → All (λ i. g i ≡ f i +ℤ c) is → kth k (map g is) ≡ kth k (map f is) +ℤ c
+moved_stretch : {I : Type 0} (k : ℕ) (c : ℤ) (f g : I → ℤ) (is : List I) → 1 ≤ k → k ≤ length is → AllByRecursion (λ i. g i ≡ f i +ℤ c) is → kth k (map g is) ≡ kth k (map f is) +ℤ c
 moved_stretch k c f g is lo hi a = kth_moves k c (map f is) (map g is) lo (omega (arith, length-map is f)) (each_map (λ x y. y ≡ x +ℤ c) f g is a)
 
 difference_moved : (even : Bool) (sense : Sense) (s l r : ℤ) → difference sense (r +ℤ by (looks_up even sense) s) l ≡ difference sense r l +ℤ by even s

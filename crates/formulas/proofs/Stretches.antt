@@ -1,6 +1,6 @@
 -- The stretches that zone tests and windows take the K-th highest of. Assumes nothing.
 use Rattle.std.proofs.Common.{◌≡◌, ℕ, zero, suc, ◌+◌, ◌<◌, ◌≤◌, Bool, true, eqb, List, [], ◌∷◌, map, length, ℤ, ◌≤ℤ◌, count_by, sym, refl, ap, ◌∙◌, ap₂, arith}
-use Rattle.std.specs.List.{range_with_len, AllByRecursion as All}
+use Rattle.std.specs.List.{range_with_len, AllByRecursion}
 use Rattle.std.proofs.lemmas.List.FromFn.{length-range_with_len}
 use Rattle.std.proofs.lemmas.List.{length-map}
 use Rattle.std.proofs.lemmas.List.Sums.{sum_by-cons}
@@ -13,11 +13,11 @@ use Rattle.runs.proofs.Reaching.{kth_carries}
 use Rattle.formulas.specs.Formula.{width, among}
 use Rattle.formulas.specs.Margin.{polls}
 
-all_counting : (P : ℕ → Type 0) (s n : ℕ) → ((u : ℕ) → s ≤ u → u < s + n → P u) → All P (range_with_len s n)
+all_counting : (P : ℕ → Type 0) (s n : ℕ) → ((u : ℕ) → s ≤ u → u < s + n → P u) → AllByRecursion P (range_with_len s n)
 all_counting P s zero h = tt
 all_counting P s (suc n) h = (h s (omega arith) (omega arith), all_counting P (s + 1) n (λ u lo hi. h u (omega arith) (omega arith)))
 
-pub all_polls : (P : ℕ → Type 0) (s n : ℕ) → ((u : ℕ) → s ≤ u → u < s + n → P u) → All P (polls s n)
+pub all_polls : (P : ℕ → Type 0) (s n : ℕ) → ((u : ℕ) → s ≤ u → u < s + n → P u) → AllByRecursion P (polls s n)
 unfolding polls
 all_polls P s n h = all_counting P s n h
 
@@ -25,7 +25,7 @@ pub length_polls : (s n : ℕ) → length (polls s n) ≡ n
 unfolding polls
 length_polls s n = length-range_with_len s n
 
-pub all_among : (P : ℕ → Type 0) (zone : List ℕ) → ((h : ℕ) → among h zone ≡ true → P h) → All P zone
+pub all_among : (P : ℕ → Type 0) (zone : List ℕ) → ((h : ℕ) → among h zone ≡ true → P h) → AllByRecursion P zone
 all_among P [] f = tt
 all_among P (g ∷ gs) f = (f g (or_left (eqb g g) (among g gs) (eq-eqb g g refl)), all_among P gs (λ h m. f h (or_right (eqb g h) (among h gs) m)))
 
@@ -37,7 +37,7 @@ pub rank_last : (a b p s : ℕ) → p ≤ 1000 → rank p (width a b) ≤ length
 rank_last a b p s hi = omega (arith, rank_fits p (width a b) hi, length_polls s (width a b))
 
 -- the K-th highest of f reaches p, and so that of g reaches q
-pub kth_follows : {I : Type 0} (k : ℕ) (p q : ℤ) (f g : I → ℤ) (is : List I) → 1 ≤ k → k ≤ length is → All (λ i. p ≤ℤ f i → q ≤ℤ g i) is → p ≤ℤ kth k (map f is) → q ≤ℤ kth k (map g is)
+pub kth_follows : {I : Type 0} (k : ℕ) (p q : ℤ) (f g : I → ℤ) (is : List I) → 1 ≤ k → k ≤ length is → AllByRecursion (λ i. p ≤ℤ f i → q ≤ℤ g i) is → p ≤ℤ kth k (map f is) → q ≤ℤ kth k (map g is)
 kth_follows k p q f g is lo hi a h = kth_carries k p q (map f is) (map g is) lo (omega (arith, length-map is f)) (each_map (λ x y. p ≤ℤ x → q ≤ℤ y) f g is a) h
 
 -- those of a stretch that pass, counted in the stretch itself

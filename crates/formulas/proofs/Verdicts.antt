@@ -2,7 +2,7 @@
 use Rattle.std.proofs.Common.{◌≡◌, ℕ, ◌+◌, ◌≤◌, Bool, true, false, cond, ◌⊎◌, List, map, length, ℤ, pos, negsuc, ◌+ℤ◌, neg_ℤ, ◌≤ℤ◌, ◌<ℤ◌, sym, refl, ◌∙◌, inl, inr, ⊎_elim, arith}
 use lib.Signed.{le_z}
 use Rattle.std.specs.Int.{int_max, int_min}
-use Rattle.std.specs.List.{AllByRecursion as All}
+use Rattle.std.specs.List.{AllByRecursion}
 use Rattle.std.proofs.ByRecursion.{All-weaker}
 use Rattle.std.proofs.lemmas.Int.{ints, clamps, by_lt_z}
 use Rattle.scales.specs.Model.{distance}
@@ -30,7 +30,7 @@ agree_complement : (m v : ℤ) → Agree m v → Agree (neg_ℤ m) (neg_ℤ v)
 agree_complement m v (inl h) = inr (omega (arith, ints))
 agree_complement m v (inr h) = inl (omega (arith, ints))
 
-module _ {I : Type 0} (k : ℕ) (f g : I → ℤ) (is : List I) (lo : 1 ≤ k) (hi : k ≤ length is) (all : All (λ i. Agree (f i) (g i)) is) where
+module _ {I : Type 0} (k : ℕ) (f g : I → ℤ) (is : List I) (lo : 1 ≤ k) (hi : k ≤ length is) (all : AllByRecursion (λ i. Agree (f i) (g i)) is) where
   -- what holds of each margin and its verdict
   carried : (e e' : I → ℤ) (p q : ℤ) → ((i : I) → Agree (f i) (g i) → p ≤ℤ e i → q ≤ℤ e' i) → p ≤ℤ kth k (map e is) → q ≤ℤ kth k (map e' is)
   carried e e' p q h = kth_follows k p q e e' is lo hi (All-weaker (λ i. Agree (f i) (g i)) (λ i. p ≤ℤ e i → q ≤ℤ e' i) h is all)

@@ -1,6 +1,6 @@
 -- The margin that a row works out for one entry, and the step of one entry whole. Assumes nothing.
 use Rattle.std.proofs.Common.{◌≡◌, ℕ, ◌+◌, ◌-◌, ◌*◌, ◌%◌, ◌<◌, ◌≤◌, true, false, List, [], ◌∷◌, ◌++◌, map, length, get_or, take, set, ℤ, neg_ℤ, Some, None, Option, sym, refl, ap, ◌∙◌, subst, arith}
-use Rattle.std.specs.List.{between, AllByRecursion as All}
+use Rattle.std.specs.List.{between, AllByRecursion}
 use Rattle.std.specs.Int.{int_max, int_min}
 use Rattle.std.specs.Option.{option_map}
 use Rattle.std.proofs.ByRecursion.{All-get_or}
@@ -29,7 +29,7 @@ some_is x y e = cc
 none_some : {X : Type 0} (x : X) → None ≡ Some x → ⊥
 none_some x e = let z : ◌≡◌ {A = ℕ} 0 1 = cc in omega arith
 
-pub head_low : (sh : Shape) (i : ℕ) → i < length sh.zone → All (Seen sh) sh.zone → get_or sh.zone i 0 < 64
+pub head_low : (sh : Shape) (i : ℕ) → i < length sh.zone → AllByRecursion (Seen sh) sh.zone → get_or sh.zone i 0 < 64
 head_low sh i inside heads = (All-get_or (Seen sh) sh.zone i 0 inside heads).0
 
 module _ {Reading M : Type 0} (sm : ScaleModel Reading M) (sh : Shape) (row : Readings Reading) where
@@ -37,7 +37,7 @@ module _ {Reading M : Type 0} (sm : ScaleModel Reading M) (sh : Shape) (row : Re
   lit_test y s l h o lit seen e = e ∙ ap (option_map (test sm.mark s l)) (lit h seen.0 seen.1)
 
   -- ---- the tests of the zone's heads
-  module _ (s : Sense) (l : ℤ) (i h : ℕ) (inside : i < length sh.zone) (heads : All (Seen sh) sh.zone) (is : h ≡ get_or sh.zone i 0) where
+  module _ (s : Sense) (l : ℤ) (i h : ℕ) (inside : i < length sh.zone) (heads : AllByRecursion (Seen sh) sh.zone) (is : h ≡ get_or sh.zone i 0) where
     seen_head : Seen sh h
     seen_head = subst (Seen sh) (sym is) (All-get_or (Seen sh) sh.zone i 0 inside heads)
 

@@ -5,7 +5,7 @@
 --     need          how many cells the layout takes
 --     Lawful        what a step may rely on
 use Rattle.std.specs.Prelude.{◌≡◌, ℕ, zero, suc, ◌+◌, ◌*◌, ◌<◌, ◌≤◌, Bool, true, cond, List, length}
-use Rattle.std.specs.List.{AllByRecursion as All}
+use Rattle.std.specs.List.{AllByRecursion}
 use Rattle.entries.specs.Heads.{head_total}
 use Rattle.formulas.specs.Formula.{width, horizon, reads}
 use Rattle.rules.specs.Needs.{zone_tested}
@@ -63,7 +63,7 @@ Seen sh h = (h < head_total) × (sh.reads h ≡ true)
 -- the operands of entry i come before it, that of a window right before it, and it looks as far as they make it
 abbrev pub Fair : Shape → ℕ → NodeModel → Type 0
 Fair sh i (HeadTest h s l) = Seen sh h × (sh.hz i ≡ 0)
-Fair sh i (ZoneTest k s l) = All (Seen sh) sh.zone × (length sh.zone ≡ sh.room) × (1 ≤ k) × (k ≤ length sh.zone) × (sh.hz i ≡ 0)
+Fair sh i (ZoneTest k s l) = AllByRecursion (Seen sh) sh.zone × (length sh.zone ≡ sh.room) × (1 ≤ k) × (k ≤ length sh.zone) × (sh.hz i ≡ 0)
 Fair sh i (Not j) = (j < i) × (sh.hz j ≤ sh.hz i)
 Fair sh i (Either j k) = (j < i) × (k < i) × (sh.hz j ≤ sh.hz i) × (sh.hz k ≤ sh.hz i)
 Fair sh i (Both j k) = (j < i) × (k < i) × (sh.hz j ≤ sh.hz i) × (sh.hz k ≤ sh.hz i)

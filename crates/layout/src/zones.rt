@@ -1,7 +1,7 @@
 // Zone tests: the K-th highest test over the heads of a zone.
 ghost use Rattle.std.specs.Prelude.{◌≡◌, ◌+◌, ◌<◌, ◌≤◌, length};
 ghost use Rattle.std.specs.Option.{option_map};
-ghost use Rattle.std.specs.List.{AllByRecursion as All};
+ghost use Rattle.std.specs.List.{AllByRecursion};
 ghost use Rattle.layout.specs.Shape.{shape, Seen};
 ghost use Rattle.layout.specs.Steps.{row_at, row_test, AllTested, Zoned};
 
@@ -37,7 +37,7 @@ fn test_heads<S: Scale, R: Record<Reading = S::Reading>>(
     poll: u32,
     cells: &mut [S::Margin],
 ) -> bool
-    requires heads { All (Seen (shape rule.now)) (shape rule.now).zone }
+    requires heads { AllByRecursion (Seen (shape rule.now)) (shape rule.now).zone }
     requires long { length cells.old ≡ length (shape rule.now).zone }
     ensures { AllTested (S.Scale.model scale.now) (shape rule.now) (row_at (R.Record.model «record».now) poll) sense limit.steps cells.new result }
 {
@@ -67,7 +67,7 @@ pub(crate) fn zone_margin<S: Scale, R: Record<Reading = S::Reading>>(
     poll: u32,
     cells: &mut [S::Margin],
 ) -> Option<S::Margin>
-    requires heads { All (Seen (shape rule.now)) (shape rule.now).zone }
+    requires heads { AllByRecursion (Seen (shape rule.now)) (shape rule.now).zone }
     requires rank { (1 ≤ k) × (k ≤ length (shape rule.now).zone) }
     requires room { from + length (shape rule.now).zone ≤ length cells.old }
     ensures { Zoned (S.Scale.model scale.now) (shape rule.now) (row_at (R.Record.model «record».now) poll) k sense limit.steps from cells.old cells.new result }

@@ -1,7 +1,7 @@
 -- What holds of a head's latest entry. Assumes nothing.
 use Rattle.std.proofs.Common.{◌≡◌, ℕ, ◌+◌, ◌-◌, ◌<◌, ◌≤◌, Bool, true, false, cond, eqb, leb, List, [], ◌∷◌, ◌++◌, length, get_or, take, drop, Some, None, Option, sym, refl, ap, ◌∙◌, arith, take-append-drop}
 use Rattle.std.specs.Option.{option_or}
-use Rattle.std.specs.List.{AllByRecursion as All}
+use Rattle.std.specs.List.{AllByRecursion}
 use Rattle.std.proofs.lemmas.List.{get_or-drop, length-drop, take_more}
 use Rattle.std.proofs.ByRecursion.{All-from_get_or}
 use Rattle.std.proofs.lemmas.Bool.{lt-leb, le-leb, eq-eqb, ne_eqb, and_right, and_left, and_from, cond-false, cond-true}
@@ -13,11 +13,11 @@ use Rattle.records.specs.Lookup.{blank, Upto}
 late_silent : (h t : ℕ) (e : LogEntry) → t < e.poll → tells_of h t e ≡ false
 late_silent h t e o = and_right (eqb e.head h) (leb e.poll t) (lt-leb e.poll t o)
 
-latest_late : (h t : ℕ) (es : List LogEntry) → All (λ e. t < e.poll) es → latest_entry h t es ≡ None
+latest_late : (h t : ℕ) (es : List LogEntry) → AllByRecursion (λ e. t < e.poll) es → latest_entry h t es ≡ None
 latest_late h t [] a = refl
 latest_late h t (e ∷ es) a = rw (latest_late h t es a.1, late_silent h t e a.0) refl
 
-latest_front : (h t : ℕ) (xs ys : List LogEntry) → All (λ e. t < e.poll) ys → latest_entry h t (xs ++ ys) ≡ latest_entry h t xs
+latest_front : (h t : ℕ) (xs ys : List LogEntry) → AllByRecursion (λ e. t < e.poll) ys → latest_entry h t (xs ++ ys) ≡ latest_entry h t xs
 latest_front h t [] ys a = latest_late h t ys a
 latest_front h t (x ∷ xs) ys a = ap (λ o. option_or o (cond (tells_of h t x) (Some x) None)) (latest_front h t xs ys a)
 

@@ -3,7 +3,7 @@ use Rattle.std.proofs.Common.{◌≡◌, ℕ, suc, ◌+◌, ◌-◌, ◌≤◌, 
 use Rattle.std.proofs.ByRecursion.{All-append}
 use Rattle.std.proofs.lemmas.List.{get_or-drop, drop-drop}
 use Rattle.std.proofs.lemmas.Bool.{eqb-true, not_from_true, le-leb, and_from, cond-true, cond-false}
-use Rattle.std.specs.List.{AllByRecursion as All}
+use Rattle.std.specs.List.{AllByRecursion}
 use Rattle.formulas.specs.Formula.{Formula, head_test, zone_test, complement, either, both, window, among, horizon}
 use Rattle.entries.proofs.Decoding.{stands}
 use Rattle.entries.specs.Decode.{operation_of}
@@ -33,7 +33,7 @@ from_append f n (o ∷ os) ps r =
     ((r.0, more.0), subst (λ k. From f k ps) at more.1)
 
 -- ---- the operations of a formula in range are in range
-in_ranges : (z : List ℕ) (φ : Formula) → Ranged z φ → All (InRange (length z)) (spelled φ)
+in_ranges : (z : List ℕ) (φ : Formula) → Ranged z φ → AllByRecursion (InRange (length z)) (spelled φ)
 in_ranges z (head_test h s l) r = (r.0, tt)
 in_ranges z (zone_test k s l) r = (r, tt)
 in_ranges z (complement φ) r = All-append (InRange (length z)) (spelled φ) (Not ∷ []) (in_ranges z φ r) (tt, tt)
@@ -45,7 +45,7 @@ module _ (z : List ℕ) (es : List Entry) where
   abbrev read : ℕ → Option OperationModel
   read i = operation_of (get_or es i blank) (length z)
 
-  from_written : (rest : List Entry) (os : List OperationModel) (n : ℕ) → drop n es ≡ rest → Written rest os → All (InRange (length z)) os → From read n os
+  from_written : (rest : List Entry) (os : List OperationModel) (n : ℕ) → drop n es ≡ rest → Written rest os → AllByRecursion (InRange (length z)) os → From read n os
   from_written [] [] n e w a = tt
   from_written [] (o ∷ os) n e w a = absurd w
   from_written (x ∷ rest) [] n e w a = absurd w

@@ -1,7 +1,7 @@
 -- What assembles is spelled by the entries, and all its values are in range. Assumes nothing.
 use Rattle.std.proofs.Common.{◌≡◌, ℕ, zero, suc, Bool, true, false, cond, eqb, List, [], ◌∷◌, ◌++◌, map, length, get_or, IfSome, Some, None, Ok, Err, Option, Result, refl, ap, subst, ⊎_elim, arith, length-append}
 use Rattle.std.proofs.lemmas.Bool.{eqb-true, or_cases}
-use Rattle.std.specs.List.{AllByRecursion as All}
+use Rattle.std.specs.List.{AllByRecursion}
 use Rattle.formulas.specs.Formula.{Formula, head_test, zone_test, complement, either, both, window, among, reads}
 use Rattle.entries.proofs.Decoding.{told}
 use Rattle.entries.specs.Decode.{operation_of}
@@ -53,7 +53,7 @@ among_since : (b : Bool) (h : ℕ) → cond b None (Some h) ≡ None → b ≡ t
 among_since true h e = refl
 among_since false h e = let bad : ◌≡◌ {A = ℕ} 0 1 = cc in absurd (omega arith)
 
-built_ranged : (z : List ℕ) (op : OperationModel) (st : List Formula) → InRange (length z) op → outside z op ≡ None → All (Ranged z) st → IfSome (built op st) (All (Ranged z))
+built_ranged : (z : List ℕ) (op : OperationModel) (st : List Formula) → InRange (length z) op → outside z op ≡ None → AllByRecursion (Ranged z) st → IfSome (built op st) (AllByRecursion (Ranged z))
 built_ranged z (HeadTest h s l) st r o a = ((r, among_since (among h z) h o), a)
 built_ranged z (ZoneTest k s l) st r o a = (r, a)
 built_ranged z Not [] r o a = tt
@@ -76,13 +76,13 @@ module _ (z : List ℕ) (es : List Entry) where
       go (Err f) e = let bad : ◌≡◌ {A = ℕ} 0 1 = cc in absurd (omega arith)
       go (Ok s) e = judged_within z (eqb (suc n) (length es)) n s (operation_of (get_or es n blank) (length z)) st op e is
 
-  all_ranged : (n : ℕ) (st : List Formula) → stack z es n ≡ Ok st → All (Ranged z) st
+  all_ranged : (n : ℕ) (st : List Formula) → stack z es n ≡ Ok st → AllByRecursion (Ranged z) st
   unfolding stack
   all_ranged zero [] e = tt
   all_ranged zero (φ ∷ st) e = let bad : ◌≡◌ {A = ℕ} 0 1 = cc in absurd (omega arith)
   all_ranged (suc n) st e =
       let l = last_entry z es n st e in
-      subst (λ o. IfSome o (All (Ranged z))) l.makes
+      subst (λ o. IfSome o (AllByRecursion (Ranged z))) l.makes
       (built_ranged z l.op l.before (told (get_or es n blank) (length z) l.op l.is).1 (within n st l.op e l.is) (all_ranged n l.before l.after))
 
   pub newest_ranged : (n : ℕ) (φ : Formula) (st : List Formula) → stack z es n ≡ Ok (φ ∷ st) → Ranged z φ

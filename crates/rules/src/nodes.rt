@@ -1,7 +1,7 @@
 // Reading a rule entry by entry.
 ghost use Rattle.std.specs.Prelude.{◌≡◌, ℕ, ◌<◌, ◌≤◌};
 ghost use Rattle.std.specs.Option.{option_map};
-ghost use Rattle.formulas.specs.Formula.{width as width_of_lem};
+ghost use Rattle.formulas.specs.Formula.{width as window_width};
 ghost use Rattle.entries.specs.Operations.{model as operation_model};
 ghost use Rattle.entries.specs.Writing.{InRange};
 ghost use Rattle.rules.specs.Nodes.{model, node_by, node_at};
@@ -15,7 +15,7 @@ use runs::rank;
 // How many polls a window has.
 fn width(first: u16, last: u16) -> u16
     requires { last ≤ 1439 }
-    ensures { result ≡ width_of_lem first last }
+    ensures { result ≡ window_width first last }
 {
     last.saturating_sub(first) + 1
 }

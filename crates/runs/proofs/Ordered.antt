@@ -3,7 +3,7 @@ use Rattle.std.proofs.Common.{◌≡◌, suc, ◌+◌, ◌<◌, Bool, true, fals
 use lib.Signed.{lt_z}
 use Rattle.std.proofs.lemmas.Int.{ints}
 use Rattle.std.proofs.lemmas.Bool.{cases_Bool, cond-true, cond-false, both_ways, eqb-true, eq-eqb, lt-ltb, le-ltb}
-use Rattle.std.specs.List.{AllByRecursion as All, insert, remove}
+use Rattle.std.specs.List.{AllByRecursion, insert, remove}
 use Rattle.std.proofs.ByRecursion.{All-weaker}
 use Rattle.runs.specs.Highest.{hit, tally, above}
 use Rattle.runs.specs.Order.{Descending, whole_eq, copies, put_in, take_out, Added, Taken}
@@ -37,7 +37,7 @@ tally-put_in p z (x ∷ xs) =
     (λ e. rw e refl)
     (cases_Bool (lt_z z x))
 
-all-put_in : (P : ℤ → Type 0) (z : ℤ) (xs : List ℤ) → P z → All P xs → All P (put_in z xs)
+all-put_in : (P : ℤ → Type 0) (z : ℤ) (xs : List ℤ) → P z → AllByRecursion P xs → AllByRecursion P (put_in z xs)
 all-put_in P z [] h a = (h, tt)
 all-put_in P z (x ∷ xs) h a =
     ⊎_elim
@@ -83,7 +83,7 @@ tally-take_out p z (x ∷ xs) =
     omega (arith, tally-take_out p z xs, same, ap (tally p) out))
     (cases_Bool (whole_eq z x))
 
-all-take_out : (P : ℤ → Type 0) (z : ℤ) (xs : List ℤ) → All P xs → All P (take_out z xs)
+all-take_out : (P : ℤ → Type 0) (z : ℤ) (xs : List ℤ) → AllByRecursion P xs → AllByRecursion P (take_out z xs)
 all-take_out P z [] a = tt
 all-take_out P z (x ∷ xs) a =
     ⊎_elim
@@ -125,7 +125,7 @@ take_out_is z (x ∷ xs) d l s =
     (cond-true (whole_eq z x) xs (x ∷ take_out z xs) same ∙ ap (remove (x ∷ xs)) (sym n), omega (arith, tally_yes (whole_eq z) x xs same)))
     (cases_Bool (lt_z z x))
 
-all_not_copies : (z x : ℤ) (xs : List ℤ) → All (λ y. y ≤ℤ x) xs → lt_z x z ≡ true → copies z xs ≡ 0
+all_not_copies : (z x : ℤ) (xs : List ℤ) → AllByRecursion (λ y. y ≤ℤ x) xs → lt_z x z ≡ true → copies z xs ≡ 0
 all_not_copies z x [] a l = refl
 all_not_copies z x (y ∷ xs) a l =
     let other : whole_eq z y ≡ false = whole_eq_false z y (λ q. absurd (omega (arith, ints, a.0))) in

@@ -1,6 +1,6 @@
 -- Two lists, place by place. Assumes nothing.
 use Rattle.std.proofs.Common.{List, [], ◌∷◌, map}
-use Rattle.std.specs.List.{AllZip, AllByRecursion as All}
+use Rattle.std.specs.List.{AllZip, AllByRecursion}
 
 pub each_like : {X : Type 0} (R S : X → X → Type 0) (xs ys : List X) → ((x y : X) → R x y → S x y) → AllZip R xs ys → AllZip S xs ys
 each_like R S [] [] f e = tt
@@ -14,6 +14,6 @@ each_back R [] (y ∷ ys) e = e
 each_back R (x ∷ xs) [] e = e
 each_back R (x ∷ xs) (y ∷ ys) e = (e.0, each_back R xs ys e.1)
 
-pub each_map : {I X : Type 0} (R : X → X → Type 0) (f g : I → X) (is : List I) → All (λ i. R (f i) (g i)) is → AllZip R (map f is) (map g is)
+pub each_map : {I X : Type 0} (R : X → X → Type 0) (f g : I → X) (is : List I) → AllByRecursion (λ i. R (f i) (g i)) is → AllZip R (map f is) (map g is)
 each_map R f g [] h = tt
 each_map R f g (i ∷ is) h = (h.0, each_map R f g is h.1)

@@ -3,7 +3,7 @@ use Rattle.std.proofs.Common.{◌≡◌, ℕ, zero, suc, ◌+◌, ◌-◌, ◌<�
 use lib.Signed.{lt_z, le_z}
 use Rattle.std.proofs.lemmas.Int.{ints}
 use Rattle.std.proofs.lemmas.Bool.{cases_Bool, both_ways}
-use Rattle.std.specs.List.{AllByRecursion as All}
+use Rattle.std.specs.List.{AllByRecursion}
 use Rattle.runs.specs.Highest.{hit, tally, Kth}
 use Rattle.runs.specs.Order.{Descending}
 
@@ -52,12 +52,12 @@ kth_unique k xs m n a b =
 abbrev pub Upward : (ℤ → Bool) → Type 0
 Upward p = (x y : ℤ) → x ≤ℤ y → p x ≡ true → p y ≡ true
 
-all-get_or-le : (x : ℤ) (xs : List ℤ) (i : ℕ) → i < length xs → All (λ y. y ≤ℤ x) xs → get_or xs i (pos 0) ≤ℤ x
+all-get_or-le : (x : ℤ) (xs : List ℤ) (i : ℕ) → i < length xs → AllByRecursion (λ y. y ≤ℤ x) xs → get_or xs i (pos 0) ≤ℤ x
 all-get_or-le x [] i l a = absurd (omega arith)
 all-get_or-le x (y ∷ xs) zero l a = a.0
 all-get_or-le x (y ∷ xs) (suc i) l a = all-get_or-le x xs i (omega arith) a.1
 
-pub tally_none : (p : ℤ → Bool) → Upward p → (x : ℤ) (xs : List ℤ) → p x ≡ false → All (λ y. y ≤ℤ x) xs → tally p xs ≡ 0
+pub tally_none : (p : ℤ → Bool) → Upward p → (x : ℤ) (xs : List ℤ) → p x ≡ false → AllByRecursion (λ y. y ≤ℤ x) xs → tally p xs ≡ 0
 tally_none p up x [] e a = refl
 tally_none p up x (y ∷ xs) e a =
     let rest = tally_none p up x xs e a.1 in

@@ -1,12 +1,12 @@
 -- Stretches of whole numbers that lie highest first. Assumes nothing.
 use Rattle.std.specs.Prelude.{◌≡◌, ℕ, ◌+◌, Bool, false, cond, List, [], ◌∷◌, ℤ, pos, negsuc, ◌≤ℤ◌, ◌==◌, int_lt, nat_lt}
-use Rattle.std.specs.List.{AllByRecursion as All}
+use Rattle.std.specs.List.{AllByRecursion}
 use Rattle.runs.specs.Highest.{tally, hit}
 
 -- highest first
 abbrev pub Descending : List ℤ → Type 0
 Descending [] = Unit {0}
-Descending (x ∷ xs) = All (λ y. y ≤ℤ x) xs × Descending xs
+Descending (x ∷ xs) = AllByRecursion (λ y. y ≤ℤ x) xs × Descending xs
 
 -- whether two whole numbers are the same
 abbrev pub whole_eq : ℤ → ℤ → Bool

@@ -1,11 +1,11 @@
 -- What it says that a head is the first at or after a number. Assumes nothing.
 use Rattle.std.proofs.Common.{◌≡◌, ℕ, ◌<◌, ◌≤◌, true, false, eqb, leb, List, [], ◌∷◌, Some, None, sym, refl, ◌∙◌, subst, ⊎_elim, arith}
-use Rattle.std.specs.List.{AllByRecursion as All}
+use Rattle.std.specs.List.{AllByRecursion}
 use Rattle.std.proofs.lemmas.Bool.{cases_lt, cond-true, cond-false, le-leb, lt-leb, eqb-true, eq-eqb, or_left, or_right, or_cases, both_ways}
 use Rattle.formulas.specs.Formula.{among}
 use Rattle.entries.specs.Heads.{first_from, Rising}
 
-all_in : (P : ℕ → Type 0) (gs : List ℕ) (h : ℕ) → All P gs → among h gs ≡ true → P h
+all_in : (P : ℕ → Type 0) (gs : List ℕ) (h : ℕ) → AllByRecursion P gs → among h gs ≡ true → P h
 all_in P [] h a e = absurd (both_ways false refl e)
 all_in P (g ∷ gs) h a e = ⊎_elim (λ (q : eqb g h ≡ true). subst P (eqb-true g h q) a.0) (λ (q : among h gs ≡ true). all_in P gs h a.1 q) (or_cases (eqb g h) (among h gs) e)
 

@@ -1,7 +1,7 @@
 -- Every line of the table of settled readings, by one test that antt computes. Assumes nothing.
 use Rattle.std.proofs.Common.{◌≡◌, ℕ, Bool, true, false, ◌&&◌, eqb, List, [], ◌∷◌, ℤ, Some, None, Ok, Err, Option, Result, refl, ap, ◌∙◌, arith}
 use lib.Signed.{le_z}
-use Rattle.std.specs.List.{AllByRecursion as All}
+use Rattle.std.specs.List.{AllByRecursion}
 use Rattle.std.proofs.lemmas.Int.{ints}
 use Rattle.std.proofs.lemmas.Bool.{and_parts, eqb-true, false≢true}
 use Rattle.formulas.specs.Margin.{margin, verdict, polls}
@@ -113,10 +113,10 @@ abbrev all_right : List Line → Bool
 all_right [] = true
 all_right (l ∷ ls) = right l && all_right ls
 
-are_right : (ls : List Line) → all_right ls ≡ true → All Right ls
+are_right : (ls : List Line) → all_right ls ≡ true → AllByRecursion Right ls
 are_right [] q = tt
 are_right (l ∷ ls) q = let h = and_parts (right l) (all_right ls) q in (is_right l h.0, are_right ls h.1)
 
-pub table_right : All Right table
+pub table_right : AllByRecursion Right table
 unfolding margin polls kth highest faults_from first_fault grid_whole on_grid
 table_right = are_right table refl

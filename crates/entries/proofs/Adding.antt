@@ -1,33 +1,34 @@
 -- Heads added to a set, one or many. Assumes nothing.
-use Rattle.std.proofs.Common.{◌≡◌, ℕ, ◌+◌, ◌^◌, ◌<◌, ◌||◌, eqb, List, [], ◌∷◌, ◌++◌, length, get_or, take, sym, ap, ◌∙◌, subst, ap₂}
+use Rattle.std.proofs.Common.{◌≡◌, ℕ, ◌+◌, ◌*◌, ◌%◌, ◌^◌, ◌<◌, ◌||◌, eqb, List, [], ◌∷◌, ◌++◌, length, get_or, take, sym, ap, ◌∙◌, ap₂, arith}
 use mathlib.Core.Bool.{or_comm, or-false}
 use lib.Bits.{bit_or}
-use Rattle.std.proofs.lemmas.Nat.{or_lt, pow_below}
+use Rattle.std.proofs.lemmas.Nat.{or_lt, one_shl, pow_below}
 use Rattle.std.proofs.lemmas.List.{take_more}
 use Rattle.formulas.specs.Formula.{among}
 use Rattle.entries.specs.Heads.{head_total, has, heads, SameHeads}
 use Rattle.entries.proofs.Bits.{joined, power_bit}
 use Rattle.entries.proofs.Listing.{among_heads, among-append}
 
--- x has the bits of y and of z
-pub both_fit : (x y z : ℕ) → x ≡ bit_or y z → y < 2 ^ head_total → z < 2 ^ head_total → x < 2 ^ head_total
-both_fit x y z is small other = subst (λ n. n < 2 ^ head_total) (sym is) (or_lt head_total y z small other)
+pub both_fit : (y z : ℕ) → y < 2 ^ head_total → z < 2 ^ head_total → bit_or y z < 2 ^ head_total
+both_fit = or_lt head_total
 
-pub united : (x y z : ℕ) → x ≡ bit_or y z → y < 2 ^ head_total → z < 2 ^ head_total → SameHeads (heads x) (heads y ++ heads z)
-united x y z is small other h =
-    among_heads x h (both_fit x y z is small other)
-    ∙ ap (λ n. has n h) is
+pub united : (y z : ℕ) → y < 2 ^ head_total → z < 2 ^ head_total → SameHeads (heads (bit_or y z)) (heads y ++ heads z)
+united y z small other h =
+    among_heads _ h (both_fit y z small other)
     ∙ joined y z h
     ∙ sym (among-append h (heads y) (heads z) ∙ ap₂ ◌||◌ (among_heads y h small) (among_heads z h other))
 
--- x has the bits of z and that of head h
-pub fits : (x z h : ℕ) → x ≡ bit_or z (2 ^ h) → z < 2 ^ head_total → h < head_total → x < 2 ^ head_total
-fits x z h is small near = both_fit x z (2 ^ h) is small (pow_below h head_total near)
+-- what `1 << h` is
+pub shifted : (h : ℕ) → h < head_total → 1 * 2 ^ h % 2 ^ 128 ≡ 2 ^ h
+shifted h near = one_shl h 128 (omega arith)
 
-pub added : (x z h : ℕ) → x ≡ bit_or z (2 ^ h) → z < 2 ^ head_total → h < head_total → SameHeads (heads x) (h ∷ heads z)
-added x z h is small near j =
-    among_heads x j (fits x z h is small near)
-    ∙ ap (λ n. has n j) is
+pub fits : (z h : ℕ) → z < 2 ^ head_total → h < head_total → bit_or z (1 * 2 ^ h % 2 ^ 128) < 2 ^ head_total
+fits z h small near = rw (shifted h near) (both_fit z (2 ^ h) small (pow_below h head_total near))
+
+pub added : (z h : ℕ) → z < 2 ^ head_total → h < head_total → SameHeads (heads (bit_or z (1 * 2 ^ h % 2 ^ 128))) (h ∷ heads z)
+added z h small near j =
+    among_heads _ j (fits z h small near)
+    ∙ ap (λ n. has (bit_or z n) j) (shifted h near)
     ∙ joined z (2 ^ h) j
     ∙ or_comm (has z j) (has (2 ^ h) j)
     ∙ ap₂ ◌||◌ (power_bit h j) (sym (among_heads z j small))

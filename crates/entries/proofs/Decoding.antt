@@ -1,13 +1,15 @@
 -- An entry stands for the operation that it writes, if the values are in range. Assumes nothing.
 use Rattle.std.proofs.Common.{◌≡◌, ℕ, zero, suc, ◌≤◌, Bool, true, false, cond, ◌&&◌, eqb, leb, ℤ, nat_abs, Some, None, Option, refl, ap, ◌∙◌, subst, arith}
-use Rattle.std.proofs.lemmas.Bool.{and_parts, and_from, leb-true, le-leb, eqb-true, cond-true}
+use Rattle.std.proofs.lemmas.Bool.{leb-true, le-leb, eqb-true, cond-true}
+use Rattle.std.proofs.lemmas.Bool.Decides.{nat_tests}
+use Rattle.std.proofs.lemmas.Option.{none-some, cond_some}
 use Rattle.std.specs.Option.{option_map}
-use Rattle.scales.specs.Limits.{bounded}
+use Rattle.scales.specs.Limits.{bounded, sense_number}
 use Rattle.scales.specs.declared.limit.Sense.{Sense}
 use Rattle.scales.specs.declared.limit.Sense.TheVariants.{AtLeast, AtMost}
 use Rattle.entries.specs.Decode.{sense_of, test_of, head_test_of, zone_test_of, fair_rank, fair_window, operation_of}
 use Rattle.entries.specs.Operations.{OperationModel, HeadTest, ZoneTest, Not, Either, Both, Window}
-use Rattle.entries.specs.Writing.{sense_number, Writes, InRange, Decoded}
+use Rattle.entries.specs.Writing.{Writes, InRange, Decoded, entry_of, Written}
 use Rattle.entries.specs.declared.entry.Entry.{Entry}
 
 -- ---- from the operation back to the fields
@@ -23,7 +25,7 @@ module _ {X : Type 0} (P : X → Type 0) where
   by_some x p o e = let same : x ≡ o = cc in subst P same p
 
   by_none : (o : X) → None ≡ Some o → P o
-  by_none o e = let bad : ◌≡◌ {A = ℕ} 0 1 = cc in absurd (omega arith)
+  by_none o e = absurd (none-some o e)
 
   by_mapped : {Y : Type 0} (f : Y → X) (t : Option Y) → ((y : Y) → t ≡ Some y → P (f y)) → (o : X) → option_map f t ≡ Some o → P o
   by_mapped f None g o e = by_none o e
@@ -41,10 +43,20 @@ test_told : (e : Entry) (t : Sense × ℤ) → test_of e ≡ Some t → Tested e
 test_told e =
     by_cond (Tested e) (leb e.sense 1) _ None
     (λ s. by_mapped (Tested e) (λ l. (sense_of e.sense, l)) (bounded 1048576 e.limit)
-    (by_cond (λ l. Tested e (sense_of e.sense, l)) (leb (nat_abs e.limit) 1048576) (Some e.limit) None
-    (λ near. by_some (λ l. Tested e (sense_of e.sense, l)) e.limit (sense_told e.sense (leb-true _ _ s), refl, leb-true _ _ near))
-    (by_none (λ l. Tested e (sense_of e.sense, l)))))
+    (λ l is. let b = cond_some _ _ _ is in (sense_told e.sense (leb-true _ _ s), b.1, subst (λ z. nat_abs z ≤ 1048576) b.1 (leb-true _ _ b.0))))
     (by_none (Tested e))
+
+rank_told : (k heads : ℕ) → fair_rank k heads ≡ true → (1 ≤ k) × (k ≤ heads)
+rank_told k heads r = grind (arith, nat_tests)
+
+window_told : (e : Entry) → fair_window e ≡ true → (e.first ≤ e.last) × (e.last ≤ 1439) × (1 ≤ e.share) × (e.share ≤ 1000)
+window_told e w = grind (arith, nat_tests)
+
+rank_back : (k heads : ℕ) → 1 ≤ k → k ≤ heads → fair_rank k heads ≡ true
+rank_back k heads p q = grind (arith, nat_tests)
+
+window_back : (a b p : ℕ) → InRange 0 (Window a b p) → (leb a b && leb b 1439 && leb 1 p && leb p 1000) ≡ true
+window_back a b p r = grind (arith, nat_tests)
 
 pub told : (e : Entry) (heads : ℕ) (o : OperationModel) → operation_of e heads ≡ Some o → Told e heads o
 told e heads =
@@ -52,18 +64,14 @@ told e heads =
     (λ k. by_mapped (Told e heads) (λ x. HeadTest e.head x.0 x.1) (test_of e) (λ t is. let w = test_told e t is in ((eqb-true _ _ k, refl, w.0, w.1), w.2)))
     (by_cond (Told e heads) (eqb e.kind 17) _ _
     (λ k. by_cond (Told e heads) (fair_rank e.k heads) _ None
-    (λ r. by_mapped (Told e heads) (λ x. ZoneTest e.k x.0 x.1) (test_of e) (λ t is. let w = test_told e t is in let f = and_parts _ _ r in ((eqb-true _ _ k, refl, w.0, w.1), (leb-true _ _ f.0, leb-true _ _ f.1, w.2))))
+    (λ r. by_mapped (Told e heads) (λ x. ZoneTest e.k x.0 x.1) (test_of e) (λ t is. let w = test_told e t is in let f = rank_told e.k heads r in ((eqb-true _ _ k, refl, w.0, w.1), (f.0, f.1, w.2))))
     (by_none (Told e heads)))
     (by_cond (Told e heads) (eqb e.kind 18) _ _ (λ k. by_some (Told e heads) Not (eqb-true _ _ k, tt))
     (by_cond (Told e heads) (eqb e.kind 19) _ _ (λ k. by_some (Told e heads) Either (eqb-true _ _ k, tt))
     (by_cond (Told e heads) (eqb e.kind 20) _ _ (λ k. by_some (Told e heads) Both (eqb-true _ _ k, tt))
     (by_cond (Told e heads) (eqb e.kind 21) _ None
     (λ k. by_cond (Told e heads) (fair_window e) _ None
-    (λ w.
-    let a = and_parts (leb e.first e.last && leb e.last 1439 && leb 1 e.share) (leb e.share 1000) w in
-    let b = and_parts (leb e.first e.last && leb e.last 1439) (leb 1 e.share) a.0 in
-    let d = and_parts (leb e.first e.last) (leb e.last 1439) b.0 in
-    by_some (Told e heads) (Window e.first e.last e.share) ((eqb-true _ _ k, refl, refl, refl), (leb-true _ _ d.0, leb-true _ _ d.1, leb-true _ _ b.1, leb-true _ _ a.1)))
+    (λ w. by_some (Told e heads) (Window e.first e.last e.share) ((eqb-true _ _ k, refl, refl, refl), window_told e w))
     (by_none (Told e heads)))
     (by_none (Told e heads)))))))
 
@@ -83,13 +91,24 @@ pub stands : (e : Entry) (heads : ℕ) (o : OperationModel) → Writes e o → I
 stands e heads (HeadTest h s l) w r = rw w.0 (ap (head_test_of e.head) (test_back e s l w.2 w.3 r) ∙ ap (λ n. Some (HeadTest n s l)) w.1)
 stands e heads (ZoneTest k s l) w r =
     rw w.0 (ap (λ n. cond (fair_rank n heads) (zone_test_of n (test_of e)) None) w.1
-    ∙ cond-true _ _ _ (and_from _ _ (le-leb _ _ r.0) (le-leb _ _ r.1))
+    ∙ cond-true _ _ _ (rank_back k heads r.0 r.1)
     ∙ ap (zone_test_of k) (test_back e s l w.2 w.3 r.2))
 stands e heads Not w r = rw w refl
 stands e heads Either w r = rw w refl
 stands e heads Both w r = rw w refl
 stands e heads (Window a b p) w r =
-    rw w.0 (rw w.1 (rw w.2 (rw w.3 (cond-true _ _ _ (and_from _ _ (and_from _ _ (and_from _ _ (le-leb _ _ r.0) (le-leb _ _ r.1)) (le-leb _ _ r.2)) (le-leb _ _ r.3))))))
+    rw (w.0, w.1, w.2, w.3) (cond-true _ _ _ (window_back a b p r))
+
+writes : (o : OperationModel) → Writes (entry_of o) o
+writes (HeadTest h s l) = (refl, refl, refl, refl)
+writes (ZoneTest k s l) = (refl, refl, refl, refl)
+writes Not = refl
+writes Either = refl
+writes Both = refl
+writes (Window a b p) = (refl, refl, refl, refl)
+
+pub written : (o : OperationModel) (e : Entry) → e ≡ entry_of o → Written o e
+written o e is = record { is = is; stands = λ heads r. rw is (stands (entry_of o) heads o (writes o) r) }
 
 pub decoded : (e : Entry) (heads : ℕ) → Decoded e heads
 decoded e heads = record { writes = λ o is. (told e heads o is).0; in_range = λ o is. (told e heads o is).1; stands = λ o. stands e heads o }

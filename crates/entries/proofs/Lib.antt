@@ -4,3 +4,4 @@ pub mod Listing
 pub mod Adding
 pub mod Digits
 pub mod Decoding
+pub mod Walking

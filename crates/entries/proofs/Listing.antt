@@ -1,8 +1,11 @@
 -- The heads of a set as a list: which are among them, in what order, and the first from one on. Assumes nothing.
-use Rattle.std.proofs.Common.{◌≡◌, ℕ, zero, suc, ◌^◌, ◌<◌, ◌≤◌, Bool, true, false, cond, ◌&&◌, ◌||◌, eqb, ltb, List, [], ◌∷◌, ◌++◌, Some, None, sym, refl, ap, ◌∙◌, subst, ap₂, ⊎_elim, arith}
+use Rattle.std.proofs.Common.{◌≡◌, ℕ, zero, suc, ◌/◌, ◌^◌, ◌<◌, ◌≤◌, Bool, true, false, cond, ◌&&◌, ◌||◌, eqb, ltb, List, [], ◌∷◌, ◌++◌, Some, None, sym, refl, ap, ◌∙◌, subst, ap₂, ⊎_elim, arith}
+use lib.Bits.{bit_and}
 use mathlib.Core.Bool.{or_assoc, or-false}
 use Rattle.std.proofs.ByRecursion.{All-push, All-weaker}
 use Rattle.std.proofs.lemmas.Bool.{cases_order, cases_lt, both_ways, eq-eqb, ne_eqb, eqb-true, le-leb, lt-leb, lt-ltb, le-ltb, or_cases, or_right, cond-true, cond-false}
+use Rattle.std.proofs.lemmas.Nat.Bits.{shr_and_one}
+use Rattle.std.proofs.lemmas.Bool.Decides.{nat_tests}
 use Rattle.std.specs.List.{AllByRecursion}
 use Rattle.formulas.specs.Formula.{among}
 use Rattle.entries.specs.Heads.{head_total, has, heads_below, heads, first_from, Rising}
@@ -14,16 +17,8 @@ among-append h (g ∷ gs) hs = ap (λ b. eqb g h || b) (among-append h gs hs) �
 
 -- ---- which heads are among them
 one_among : (n h : ℕ) (b : Bool) → among h (cond b (n ∷ []) []) ≡ (eqb n h && b)
-one_among n h true = go (eqb n h)
-  where
-    go : (b : Bool) → (b || false) ≡ (b && true)
-    go true = refl
-    go false = refl
-one_among n h false = go (eqb n h)
-  where
-    go : (b : Bool) → false ≡ (b && false)
-    go true = refl
-    go false = refl
+one_among n h true = grind (arith, nat_tests)
+one_among n h false = grind (arith, nat_tests)
 
 one_more : (z n h : ℕ) → ((ltb h n && has z h) || (eqb n h && has z n)) ≡ (ltb h (suc n) && has z h)
 one_more z n h = ⊎_elim here (⊎_elim low high) (cases_order h n)
@@ -55,9 +50,17 @@ among_heads z h small = among_below z head_total h ∙ ⊎_elim low high (cases_
     high : head_total ≤ h → (ltb h head_total && has z h) ≡ has z h
     high l = rw (le-ltb h head_total l) (sym (beyond z h small l))
 
--- every head of a set is below the total
-pub low_head : (z h : ℕ) → z < 2 ^ head_total → among h (heads z) ≡ true → h < head_total
-low_head z h small e = ⊎_elim (λ (q : h < head_total). q) (λ (q : head_total ≤ h). absurd (both_ways _ (beyond z h small q) (sym (among_heads z h small) ∙ e))) (cases_lt h head_total)
+-- what `contains` finds
+pub bit_tells : (z h : ℕ) → z < 2 ^ head_total → eqb (bit_and (z / 2 ^ h) 1) 1 ≡ among h (heads z)
+bit_tells z h small = ap (λ n. eqb n 1) (shr_and_one z h) ∙ sym (among_heads z h small)
+
+pub none_past : (z h : ℕ) → z < 2 ^ head_total → head_total ≤ h → ltb h head_total ≡ among h (heads z)
+none_past z h small far = le-ltb h head_total far ∙ sym (among_heads z h small ∙ beyond z h small far)
+
+-- what holds of each of them holds of one
+pub all_among : (P : ℕ → Type 0) (gs : List ℕ) (h : ℕ) → AllByRecursion P gs → among h gs ≡ true → P h
+all_among P [] h a e = absurd (both_ways _ refl e)
+all_among P (g ∷ gs) h a e = ⊎_elim (λ q. subst P (eqb-true g h q) a.0) (λ q. all_among P gs h a.1 q) (or_cases (eqb g h) (among h gs) e)
 
 -- ---- they rise
 one_below : (n : ℕ) (b : Bool) (gs : List ℕ) → AllByRecursion (λ g. g < n) gs → AllByRecursion (λ g. g < suc n) (gs ++ cond b (n ∷ []) [])
@@ -69,6 +72,14 @@ all_below : (z n : ℕ) → AllByRecursion (λ g. g < n) (heads_below z n)
 unfolding heads_below
 all_below z zero = tt
 all_below z (suc n) = one_below n (has z n) (heads_below z n) (all_below z n)
+
+-- every head of a set is below the total
+pub all_low : (z : ℕ) → AllByRecursion (λ h. h < head_total) (heads z)
+unfolding heads
+all_low z = all_below z head_total
+
+pub low_head : (z h : ℕ) → z < 2 ^ head_total → among h (heads z) ≡ true → h < head_total
+low_head z h small e = all_among (λ g. g < head_total) (heads z) h (all_low z) e
 
 one_rising : (n : ℕ) (b : Bool) (gs : List ℕ) → AllByRecursion (λ g. g < n) gs → Rising gs → Rising (gs ++ cond b (n ∷ []) [])
 one_rising n true [] a r = (tt, tt)
@@ -90,10 +101,6 @@ unfolding heads
 rising z = rising_below z head_total
 
 -- ---- the first from n on
-all_among : (P : ℕ → Type 0) (gs : List ℕ) (h : ℕ) → AllByRecursion P gs → among h gs ≡ true → P h
-all_among P [] h a e = absurd (both_ways _ refl e)
-all_among P (g ∷ gs) h a e = ⊎_elim (λ q. subst P (eqb-true g h q) a.0) (λ q. all_among P gs h a.1 q) (or_cases (eqb g h) (among h gs) e)
-
 pub first_none : (n : ℕ) (gs : List ℕ) → ((h : ℕ) → among h gs ≡ true → h < n) → first_from n gs ≡ None
 first_none n [] f = refl
 first_none n (g ∷ gs) f =

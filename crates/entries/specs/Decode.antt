@@ -2,9 +2,9 @@
 use Rattle.std.specs.Prelude.{ℕ, Bool, cond, ◌&&◌, ℤ, Some, None, Option, ◌==◌, nat_le}
 use Rattle.std.specs.Option.{option_map}
 use Rattle.scales.specs.Limits.{bounded}
-use Rattle.scales.specs.declared.limit.Limit.{Limit}
 use Rattle.scales.specs.declared.limit.Sense.{Sense}
 use Rattle.scales.specs.declared.limit.Sense.TheVariants.{AtLeast, AtMost}
+use Rattle.scales.specs.declared.limit.Test.{Test}
 use Rattle.entries.specs.Operations.{OperationModel, HeadTest, ZoneTest, Not, Either, Both, Window}
 use Rattle.entries.specs.declared.entry.Entry.{Entry}
 
@@ -15,8 +15,8 @@ sense_of n = cond (n == 0) AtLeast AtMost
 abbrev pub test_of : Entry → Option (Sense × ℤ)
 test_of e = cond (nat_le e.sense 1) (option_map (λ l. (sense_of e.sense, l)) (bounded 1048576 e.limit)) None
 
-abbrev pub test_model : Sense × Limit → Sense × ℤ
-test_model t = (t.0, t.1.steps)
+abbrev pub test_model : Test → Sense × ℤ
+test_model t = (t.sense, t.limit.value)
 
 abbrev pub head_test_of : ℕ → Option (Sense × ℤ) → Option OperationModel
 head_test_of h t = option_map (λ x. HeadTest h x.0 x.1) t

@@ -12,8 +12,8 @@ pub data OperationModel : Type 0 where
 
 -- each case of an operation, with its values
 abbrev pub model : Operation → OperationModel
-model (operation.HeadTest h s l) = HeadTest h s l.steps
-model (operation.ZoneTest k s l) = ZoneTest k s l.steps
+model (operation.HeadTest h t) = HeadTest h t.sense t.limit.value
+model (operation.ZoneTest k t) = ZoneTest k t.sense t.limit.value
 model operation.Not = Not
 model operation.Either = Either
 model operation.Both = Both

@@ -1,14 +1,9 @@
 -- How an entry writes an operation down: its kind's number, and a field for each value. Assumes nothing.
-use Rattle.std.specs.Prelude.{◌≡◌, ℕ, ◌≤◌, Some, unsigned_abs}
-use Rattle.scales.specs.declared.limit.Sense.{Sense}
-use Rattle.scales.specs.declared.limit.Sense.TheVariants.{AtLeast, AtMost}
+use Rattle.std.specs.Prelude.{◌≡◌, ℕ, ◌≤◌, pos, Some, unsigned_abs}
+use Rattle.scales.specs.Limits.{sense_number}
 use Rattle.entries.specs.Decode.{operation_of}
 use Rattle.entries.specs.Operations.{OperationModel, HeadTest, ZoneTest, Not, Either, Both, Window}
 use Rattle.entries.specs.declared.entry.Entry.{Entry}
-
-abbrev pub sense_number : Sense → ℕ
-sense_number AtLeast = 0
-sense_number AtMost = 1
 
 -- the entry has the operation's kind, and its values in their fields; other fields are free
 abbrev pub Writes : Entry → OperationModel → Type 0
@@ -33,3 +28,17 @@ pub record Decoded (e : Entry) (heads : ℕ) : Type 0 where
   pub writes : (o : OperationModel) → operation_of e heads ≡ Some o → Writes e o
   pub in_range : (o : OperationModel) → operation_of e heads ≡ Some o → InRange heads o
   pub stands : (o : OperationModel) → Writes e o → InRange heads o → operation_of e heads ≡ Some o
+
+-- the entry that writes an operation, with 0 in the fields that its kind does not have
+abbrev pub entry_of : OperationModel → Entry
+entry_of (HeadTest h s l) = record { kind = 16; head = h; k = 0; sense = sense_number s; limit = l; first = 0; last = 0; share = 0 }
+entry_of (ZoneTest k s l) = record { kind = 17; head = 0; k = k; sense = sense_number s; limit = l; first = 0; last = 0; share = 0 }
+entry_of Not = record { kind = 18; head = 0; k = 0; sense = 0; limit = pos 0; first = 0; last = 0; share = 0 }
+entry_of Either = record { kind = 19; head = 0; k = 0; sense = 0; limit = pos 0; first = 0; last = 0; share = 0 }
+entry_of Both = record { kind = 20; head = 0; k = 0; sense = 0; limit = pos 0; first = 0; last = 0; share = 0 }
+entry_of (Window a b p) = record { kind = 21; head = 0; k = 0; sense = 0; limit = pos 0; first = a; last = b; share = p }
+
+-- the entry is the one that writes the operation, and stands for it wherever its values are in range
+pub record Written (o : OperationModel) (e : Entry) : Type 0 where
+  pub is : e ≡ entry_of o
+  pub stands : (heads : ℕ) → InRange heads o → operation_of e heads ≡ Some o

@@ -1,7 +1,8 @@
 // One entry of a rule as a caller writes it.
 
-// An entry: its kind and the fields that some kind has. A caller may hold anything in it; fields that the kind does not
-// have are not looked at.
+// An entry: its kind's number and the fields that some kind has. A caller may hold anything in it, so kind and sense
+// stay numbers: a wrong one is refused where a rule is made, and an enum here would ask more of callers. Fields that the kind
+// does not have are not looked at.
 #[derive(Clone, Copy, PartialEq, Eq, Debug)]
 pub struct Entry {
     pub kind: u8,

@@ -6,9 +6,6 @@ ghost use Rattle.entries.specs.Heads.{head_total, heads as heads_of, SameHeads, 
 // Heads are numbered from 0 to one below this.
 pub const HEADS: u8 = 64;
 
-// The bits of the number that a set is kept in.
-const BITS: u32 = 128;
-
 // A set of heads, one bit for each.
 #[derive(Clone, Copy, PartialEq, Eq, Debug)]
 pub struct HeadSet {
@@ -16,30 +13,17 @@ pub struct HeadSet {
     ghost few: { bits < 2 ^ head_total },
 }
 
-// The bit of a head.
-fn bit(head: u8) -> u128
-    requires { head < head_total }
-    ensures { result ≡ 2 ^ head }
-{
-    1 << head
-}
-
-// The bits of either number.
-fn joined(a: u128, b: u128) -> u128
-    ensures { result ≡ bit_or a b }
-{
-    a | b
-}
-
 impl HeadSet {
     // No head.
+    #[tactic(auto, unfolding(crate::specs::Heads::heads, crate::specs::Heads::heads_below))]
     pub const fn empty() -> HeadSet
         ensures { heads_of result.bits ≡ [] }
     {
         HeadSet { bits: 0 }
     }
 
-    // The zone of the starting rule: head 0 alone.
+    // The zone of the starting rule: head 0 alone. Const as `empty` is, so a literal and not `empty` with a head.
+    #[tactic(auto, unfolding(crate::specs::Heads::heads, crate::specs::Heads::heads_below))]
     pub const fn starting() -> HeadSet
         ensures { heads_of result.bits ≡ 0 ∷ [] }
     {
@@ -47,23 +31,26 @@ impl HeadSet {
     }
 
     // The set with one head more; none where there is no such head.
+    #[tactic(auto, using(crate::proofs::Adding::fits, crate::proofs::Adding::added))]
     pub fn with(self, head: u8) -> Option<HeadSet>
         ensures { MatchOption result (head_total ≤ head) (λ s. SameHeads (heads_of s.bits) (head ∷ heads_of self.bits)) }
     {
+        // A guard: made in the closure of a `then`, the set's invariant stays open.
         if head >= HEADS {
             return None;
         }
         Some(HeadSet {
-            bits: joined(self.bits, bit(head)),
+            bits: self.bits | 1 << head,
         })
     }
 
     // The heads of either set.
+    #[tactic(auto, using(crate::proofs::Adding::both_fit, crate::proofs::Adding::united))]
     pub fn union(self, other: HeadSet) -> HeadSet
         ensures { SameHeads (heads_of result.bits) (heads_of self.bits ++ heads_of other.bits) }
     {
         HeadSet {
-            bits: joined(self.bits, other.bits),
+            bits: self.bits | other.bits,
         }
     }
 
@@ -72,26 +59,22 @@ impl HeadSet {
         ensures { MatchOption result (SomeAbove heads.now) (λ s. SameHeads (heads_of s.bits) heads.now) }
     {
         let mut set = HeadSet::empty();
-        for i in 0..heads.len() {
-            let Some(more) = set.with(heads[i]) else {
-                return None;
-            };
-            set = more;
+        for head in heads {
+            set = set.with(*head)?;
         }
         Some(set)
     }
 
     // Whether a head is in the set.
+    #[tactic(auto, using(crate::proofs::Listing::bit_tells, crate::proofs::Listing::none_past))]
     pub fn contains(self, head: u8) -> bool
         ensures { result ≡ among head (heads_of self.bits) }
     {
-        if head >= HEADS {
-            return false;
-        }
-        (self.bits >> head) & 1 == 1
+        head < HEADS && (self.bits >> head) & 1 == 1
     }
 
     // How many heads it has.
+    #[tactic(auto, using(crate::proofs::Bits::ones_size))]
     pub fn size(self) -> usize
         ensures { result ≡ length (heads_of self.bits) }
     {
@@ -99,6 +82,7 @@ impl HeadSet {
     }
 
     // The first head at or after one, so that all are met in rising order; none where no more is in the set.
+    #[tactic(auto, using(crate::proofs::Digits::next_is, crate::proofs::Digits::next_past, crate::proofs::Listing::rising))]
     pub fn next(self, from: u8) -> Option<u8>
         ensures value { result ≡ first_from from (heads_of self.bits) }
         ensures rising { Rising (heads_of self.bits) }
@@ -107,9 +91,6 @@ impl HeadSet {
             return None;
         }
         let ahead = (self.bits >> from).trailing_zeros();
-        if ahead >= BITS {
-            return None;
-        }
-        Some(from + ahead as u8)
+        (ahead < u128::BITS).then_some(from + ahead as u8)
     }
 }

@@ -2,11 +2,16 @@
 #![tactic(auto)]
 
 mod decode;
+mod encode;
 mod entry;
 mod heads;
+mod iter;
+mod kind;
 mod operation;
 
-pub use decode::{BOTH, EITHER, HEAD_TEST, NOT, SHARE_WHOLE, WINDOW, WINDOW_LAST, ZONE_TEST};
+pub use decode::{SHARE_WHOLE, WINDOW_LAST};
 pub use entry::Entry;
 pub use heads::{HEADS, HeadSet};
+pub use iter::Heads;
+pub use kind::{Kind, UnknownKind};
 pub use operation::Operation;

@@ -6,7 +6,8 @@ use crate::layers::Layer;
 use crate::places::Place;
 use std::fmt;
 
-// Why a call is refused: the ground's number, the layer that refuses, and the place at fault.
+// Why a call is refused: the ground's number, the layer that refuses, and the place at fault. The number stays one, since
+// manuals and panels name a ground by it; the cases of each layer's fault say the ground by its content.
 #[derive(Clone, Copy, PartialEq, Eq, Debug)]
 pub struct Ground {
     pub number: u8,

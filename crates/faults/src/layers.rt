@@ -18,12 +18,12 @@ impl fmt::Display for Layer {
     ghost output = { λ layer. Some (layer_text layer) };
 
     fn fmt<W: fmt::Write>(&self, f: &mut fmt::Formatter<W>) -> fmt::Result {
-        match *self {
-            Layer::Rule => write!(f, "rule"),
-            Layer::Record => write!(f, "record"),
-            Layer::Log => write!(f, "log"),
-            Layer::Watch => write!(f, "watch"),
-            Layer::Sheet => write!(f, "sheet"),
-        }
+        f.write_str(match *self {
+            Layer::Rule => "rule",
+            Layer::Record => "record",
+            Layer::Log => "log",
+            Layer::Watch => "watch",
+            Layer::Sheet => "sheet",
+        })
     }
 }

@@ -1,8 +1,8 @@
 -- What a write into a part of the cells leaves. Assumes nothing.
-use Rattle.std.proofs.Common.{◌≡◌, ℕ, ◌+◌, ◌-◌, ◌<◌, ◌≤◌, ◌⊎◌, List, ◌++◌, length, get_or, take, drop, set, sym, refl, ap, ◌∙◌, ⊎_elim, arith}
+use Rattle.std.proofs.Common.{◌≡◌, ℕ, ◌+◌, ◌-◌, ◌<◌, ◌≤◌, ◌⊎◌, List, length, get_or, take, drop, set, sym, refl, ap, ◌∙◌, ⊎_elim, arith}
 use borrow.Rule.Slice.PartMut.{put_mid, same_len_mid}
 use Rattle.std.specs.List.{between}
-use Rattle.std.proofs.lemmas.List.{length-set, take-append-drop, get_or-take, get_or-drop, take-take, drop-drop, take-set-le, drop-set-lt}
+use Rattle.std.proofs.lemmas.List.{length-set, get_or-take, get_or-drop, take-take, drop-drop, take-set-le, drop-set-lt}
 use Rattle.std.proofs.lemmas.Slice.{between_is, between-put_mid, drop-put_mid, take-put_mid_below}
 use Rattle.std.proofs.lemmas.List.Edits.{length-between}
 use Rattle.layout.specs.Cells.{Outside}
@@ -20,10 +20,6 @@ module _ {M : Type 0} where
     before = take-put_mid_below from (to - from) xs ys from (omega arith) (omega arith);
     behind = drop-put_mid from (to - from) xs ys to (omega arith) (omega arith) long;
   }
-
-  -- a part that is put back leaves the whole
-  pub part_same : (a k : ℕ) (xs : List M) → put_mid a k xs (take k (drop a xs)) ≡ xs
-  part_same a k xs = ap (λ l. take a xs ++ l) (take-append-drop k (drop a xs)) ∙ take-append-drop a xs
 
   pub set_outside : (xs : List M) (i : ℕ) (m : M) → Outside i (i + 1) xs (set xs i m)
   set_outside xs i m = record { long = length-set xs i m; before = take-set-le i xs i m (omega arith); behind = drop-set-lt (i + 1) xs i m (omega arith) }

@@ -1,9 +1,9 @@
 -- From the margins of entries to those of the rule over the rows that were taken. Assumes nothing.
-use Rattle.std.proofs.Common.{◌≡◌, ℕ, ◌+◌, ◌-◌, ◌*◌, ◌%◌, ◌<◌, ◌≤◌, min, true, ltb, leb, List, [], ◌∷◌, ◌++◌, map, length, get_or, drop, ℤ, pos, Some, sym, refl, ap, ◌∙◌, subst, mod-lt, arith}
+use Rattle.std.proofs.Common.{◌≡◌, ℕ, ◌+◌, ◌-◌, ◌*◌, ◌%◌, ◌<◌, ◌≤◌, min, true, List, [], ◌∷◌, ◌++◌, map, length, get_or, drop, ℤ, pos, Some, sym, refl, ap, ◌∙◌, subst, mod-lt, arith}
 use Rattle.std.specs.List.{between, range_with_len}
 use Rattle.std.proofs.lemmas.List.{length_push, get_or_push, get_or_append_left, take-append-le}
 use Rattle.std.proofs.lemmas.Slice.{between_is}
-use Rattle.std.proofs.lemmas.Bool.{and_from, lt-ltb, le-ltb, le-leb, lt-leb, false≢true}
+use Rattle.std.proofs.lemmas.Bool.{le-ltb, le-leb, lt-leb, false≢true}
 use Rattle.scales.specs.Model.{ScaleModel}
 use Rattle.formulas.specs.Formula.{width, horizon}
 use Rattle.formulas.specs.Margin.{polls, margin}
@@ -13,12 +13,12 @@ use Rattle.runs.proofs.Kths.{Alike}
 use Rattle.rules.specs.Nodes.{NodeModel, HeadTest, ZoneTest, Not, Either, Both, Window}
 use Rattle.rules.specs.Rules.{zone, formula, part, listed}
 use Rattle.rules.specs.declared.rule.Rule.{Rule}
-use Rattle.rules.proofs.Standing.{part_is, whole_is}
+use Rattle.rules.proofs.Standing.{listed-length, part_is, whole_is}
 use Rattle.layout.specs.Cells.{latest}
 use Rattle.layout.specs.Shape.{Shape, shape, run_width, offset, need, Fair, Lawful}
 use Rattle.layout.specs.Slots.{RunOf, Slots}
 use Rattle.layout.specs.Steps.{Readings, Lit, Back, AllEntered}
-use Rattle.layout.specs.Rows.{Row, signal, cells_of, margins, Holds, Advanced, has_latest, Latest}
+use Rattle.layout.specs.Rows.{Row, signal, cells_of, margins, Holds, Advanced, Latest}
 use Rattle.layout.proofs.Shapes.{formed, need_is, ready, wanted}
 use Rattle.layout.proofs.SlotLaws.{slots_start, ring_ends, offset_base, run_ends}
 
@@ -97,12 +97,12 @@ module _ {M : Type 0} (mark : ℤ → ℤ) (whole : M → ℤ) (r : Rule) where
   -- a row more leaves the margins of the polls that had all their rows
   old_margins : (y : Row) (rows : List Row) (n : ℕ) → n ≡ length rows → (i p : ℕ) → i < (shape r).count → p + (shape r).hz i < n → margins mark r rows i p ≡ margins mark r (rows ++ (y ∷ [])) i p
   old_margins y rows n size i p below before =
-      margin_local mark (zone r) (part r i) (formed (zone r) (part r i) (part_is r i (omega (arith, r.listed))).ranged) p (signal rows) (signal (rows ++ (y ∷ [])))
+      margin_local mark (zone r) (part r i) (formed (zone r) (part r i) (part_is r i (omega (arith, listed-length r))).ranged) p (signal rows) (signal (rows ++ (y ∷ [])))
       (λ u h lo hi read. ap (λ (z : Row). z h) (sym (get_or_append_left rows (y ∷ []) (λ _. pos 0) u (omega arith))))
 
-module _ {Reading M : Type 0} (sm : ScaleModel Reading M) (r : Rule) (row : Readings Reading) (n : ℕ) (xs : List M) where
-  pub advanced : (k : ℕ) (ys : List M) → k ≡ cells_of r → k ≤ length xs → AllEntered sm (shape r) row n xs ys → Advanced sm r row n xs ys true
-  advanced k ys e enough a =
+module _ {Reading M : Type 0} {sm : ScaleModel Reading M} {r : Rule} {row : Readings Reading} {n : ℕ} {xs : List M} where
+  pub advanced : {k : ℕ} {ys : List M} → k ≡ cells_of r → k ≤ length xs → AllEntered sm (shape r) row n xs ys → Advanced sm r row n xs ys true
+  advanced {k} {ys} e enough a =
       let rdy = ready r k (length xs) e enough in
       let le : cells_of r ≤ length xs = omega arith in
       let size = need_is r in
@@ -125,16 +125,13 @@ module _ {Reading M : Type 0} (sm : ScaleModel Reading M) (r : Rule) (row : Read
 
 -- ---- the latest margin
 module _ {M : Type 0} (r : Rule) (n : ℕ) (xs : List M) where
-  pub there_is : (k z : ℕ) → k ≡ cells_of r → k ≤ length xs → z ≡ horizon (formula r) → z < n → true ≡ has_latest r (length xs) n
-  there_is k z e enough ez long = sym (and_from (leb (cells_of r) (length xs)) (ltb (horizon (formula r)) n) (le-leb (cells_of r) (length xs) (omega arith)) (lt-ltb (horizon (formula r)) n (omega arith)))
-
   pub latest_is : (k z t last : ℕ) (m : M) → k ≡ cells_of r → k ≤ length xs → z ≡ horizon (formula r) → z < n → t ≡ n - 1 → last ≡ length (listed r) - 1 → ((whole : M → ℤ) → Back (shape r) whole t last xs m) → Latest r n xs (Some m)
   latest_is k z t last m e enough ez long when is back mark whole rest rows h =
       let rdy = ready r k (length xs) e enough in
       let size = h.count in
       let below : last < length (listed r) = omega (arith, rdy.lawful.some) in
       let slots = to_front (shape r) whole xs rest rdy.enough (margins mark r rows) n h.slots in
-      let one : part r last ≡ formula r = ap (part r) (is ∙ ap (λ c. c - 1) r.listed) ∙ (whole_is r).last in
+      let one : part r last ≡ formula r = ap (part r) (is ∙ ap (λ c. c - 1) (listed-length r)) ∙ (whole_is r).last in
       let far = ap horizon one in
       let p : ℕ = n - 1 - horizon (formula r) in
       let poll : p ≡ length rows - 1 - horizon (formula r) = omega arith in

@@ -2,10 +2,10 @@
 pub mod Frames
 pub mod RingLaws
 pub mod Slides
-pub mod HeadLoops
 pub mod Shapes
 pub mod SlotLaws
 pub mod Moves
+pub mod EntrySteps
 pub mod Workings
 pub mod Passes
 pub mod Holdings

@@ -31,9 +31,9 @@ pub record EnteredTo {Reading M : Type 0} (sm : ScaleModel Reading M) (sh : Shap
   pub mixed : (x : Signal) (want : ℕ → ℕ → ℤ) → Wanted sm.mark sh x want → Lit sm sh row (x n) → Slots sh sm.whole want n cells → Mixed sh sm.whole want n i cells'
   pub leaves : (x : Signal) (want : ℕ → ℕ → ℤ) → Wanted sm.mark sh x want → Lit sm sh row (x n) → Slots sh sm.whole want n cells → i < sh.count → Oldest sm.whole want sh.hz n (sh.nodes i) o
 
-module _ {Reading M : Type 0} (sm : ScaleModel Reading M) (sh : Shape) (row : Readings Reading) (n : ℕ) (xs : List M) (lawful : Lawful sh) where
-  pub entered_start : (from : ℕ) (o : Option M) → from ≡ sh.count * sh.ring → EnteredTo sm sh row n 0 from o xs xs
-  entered_start from o e = record {
+module _ {Reading M : Type 0} {sm : ScaleModel Reading M} {sh : Shape} {row : Readings Reading} {n : ℕ} {xs : List M} where
+  pub entered_start : {from : ℕ} {o : Option M} → Lawful sh → from ≡ sh.count * sh.ring → EnteredTo sm sh row n 0 from o xs xs
+  entered_start {o = o} lawful e = record {
     place = e;
     long = refl;
     behind = refl;
@@ -41,9 +41,9 @@ module _ {Reading M : Type 0} (sm : ScaleModel Reading M) (sh : Shape) (row : Re
     leaves = λ x want wanted lit s below. first_node sh sm.whole want n (sh.nodes 0) o (lawful.fair 0 below);
   }
 
-  pub entered_next : (i from w : ℕ) (o o' : Option M) (ys zs : List M) → i < sh.count → w ≡ run_width (sh.nodes i)
+  pub entered_next : {i from w : ℕ} {o o' : Option M} {ys zs : List M} → i < sh.count → w ≡ run_width (sh.nodes i)
       → ((whole : M → ℤ) → i + 1 < sh.count → Leaving sh whole n (i + 1) ys o') → Entered sm sh row n i o ys zs → EnteredTo sm sh row n i from o xs ys → EnteredTo sm sh row n (i + 1) (from + w) o' xs zs
-  entered_next i from w o o' ys zs below ew leaving l inv = record {
+  entered_next {i} {ys = ys} {zs} below ew leaving l inv = record {
     place = omega (arith, offset_next sh i, inv.place);
     long = l.leaves.long ∙ inv.long;
     behind = l.leaves.behind ∙ inv.behind;
@@ -53,8 +53,8 @@ module _ {Reading M : Type 0} (sm : ScaleModel Reading M) (sh : Shape) (row : Re
     leaves = λ x want wanted lit s more. leaving sm.whole more want (λ j e. ((inv.mixed x want wanted lit s).todo j (omega arith) (omega arith)).ring);
   }
 
-  pub entered_all : (i from : ℕ) (o : Option M) (ys : List M) → sh.count ≤ i → EnteredTo sm sh row n i from o xs ys → AllEntered sm sh row n xs ys
-  entered_all i from o ys all inv = record {
+  pub entered_all : {i from : ℕ} {o : Option M} {ys : List M} → sh.count ≤ i → EnteredTo sm sh row n i from o xs ys → AllEntered sm sh row n xs ys
+  entered_all {i} {ys = ys} all inv = record {
     long = inv.long;
     behind = inv.behind;
     slots = λ x want wanted lit s. mixed_end sh sm.whole want n i ys all (inv.mixed x want wanted lit s);

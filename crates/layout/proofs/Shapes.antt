@@ -1,14 +1,21 @@
 -- Every rule has a lawful shape, in which each entry has the margins of its formula. Assumes nothing.
 use Rattle.std.proofs.Common.{◌≡◌, ℕ, zero, suc, ◌+◌, ◌-◌, ◌*◌, ◌<◌, ◌≤◌, Bool, true, false, cond, List, map, length, get_or, take, ℤ, neg_ℤ, Some, None, Option, sym, refl, ap, ◌∙◌, ap₂, add-one, arith}
 use Rattle.std.specs.Int.{int_max, int_min}
+use Rattle.std.specs.Option.{option_map}
+use Rattle.std.specs.List.{sum_by}
 use Rattle.std.proofs.lemmas.List.{take_all}
-use Rattle.std.proofs.lemmas.Bool.{cond-true, or_left, or_right, eq-eqb}
+use Rattle.std.proofs.lemmas.List.Elements.{All-from_recursion}
+use Rattle.std.proofs.lemmas.List.Folds.{list_any_at}
+use Rattle.std.proofs.lemmas.List.Sums.{sum_by_more}
+use Rattle.std.proofs.lemmas.Bool.{cond-true, eq-eqb, lt-ltb}
 use Rattle.formulas.specs.Formula.{Formula, head_test, zone_test, complement, either, both, window, width, horizon, reads}
 use Rattle.formulas.specs.Margin.{Signal, polls, margin, Formed}
 use Rattle.formulas.proofs.Stretches.{all_among}
 use Rattle.runs.specs.Highest.{kth}
 use Rattle.runs.specs.Rank.{rank}
 use Rattle.runs.proofs.Ranks.{rank_some, rank_fits}
+use Rattle.entries.specs.Heads.{heads}
+use Rattle.entries.specs.declared.heads.HeadSet.{HeadSet}
 use Rattle.entries.specs.Decode.{operation_of}
 use Rattle.entries.specs.Operations.{OperationModel}
 use Rattle.entries.specs.Operations as operation
@@ -20,16 +27,17 @@ use Rattle.rules.specs.Assemble.{blank}
 use Rattle.rules.specs.Lawful.{Ranged}
 use Rattle.rules.specs.Needs.{widths, zone_tested}
 use Rattle.rules.specs.Needs as rule_need
-use Rattle.rules.specs.Nodes.{NodeModel, HeadTest, ZoneTest, Not, Either, Both, Window, node_of, node_by}
+use Rattle.rules.specs.Nodes.{NodeModel, HeadTest, ZoneTest, Not, Either, Both, Window, model, node_of, node_by, node_at}
+use Rattle.rules.specs.declared.node.Node.{Node}
 use Rattle.rules.specs.Parts.{Operands}
 use Rattle.rules.specs.Rules.{zone, listed, formula, part}
 use Rattle.rules.specs.Spelling.{entries, spelled}
-use Rattle.rules.specs.Totals.{any, sum, tests_zone, entry_width}
+use Rattle.rules.specs.Totals.{tests_zone, entry_width}
 use Rattle.rules.specs.declared.rule.Rule.{Rule}
-use Rattle.rules.proofs.Adding.{any_more, sum_more, zone_is, widths_is}
+use Rattle.rules.proofs.Adding.{zone_is, widths_is}
 use Rattle.rules.proofs.Ranges.{written_length, spelled-length, reads_within}
 use Rattle.rules.proofs.Reading.{node_is, never_bad}
-use Rattle.rules.proofs.Standing.{passes, some, part_is, whole_is}
+use Rattle.rules.proofs.Standing.{passes, some, listed-length, part_is, whole_is}
 use Rattle.layout.specs.Shape.{shape, run_width, offset, need, Seen, Fair, Lawful, Ready}
 use Rattle.layout.specs.Slots.{Wants, Wanted}
 
@@ -68,15 +76,9 @@ writes_zone e operation.Either i below w = rw w refl
 writes_zone e operation.Both i below w = rw w refl
 writes_zone e (operation.Window a b p) i below w = rw w.0 refl
 
--- one that passes is met
-any_at : {X : Type 0} (p : X → Bool) (xs : List X) (d : X) (i k : ℕ) → i < length xs → k + (i + 1) ≤ length xs → p (get_or xs i d) ≡ true → any p (take (k + (i + 1)) xs) ≡ true
-any_at p xs d i zero lt le e = ap (λ n. any p (take n xs)) (omega arith) ∙ any_more p xs i d lt ∙ or_right _ _ e
-any_at p xs d i (suc k) lt le e =
-    ap (λ n. any p (take n xs)) (omega arith) ∙ any_more p xs (k + (i + 1)) d (omega arith) ∙ or_left _ _ (any_at p xs d i k lt (omega arith) e)
-
 module _ (r : Rule) where
-  within : (i : ℕ) → i < length (listed r) → i < r.count
-  within i lt = omega (arith, r.listed)
+  within : (i : ℕ) → i < length (listed r) → i < r.lines.count
+  within i lt = omega (arith, listed-length r)
 
   -- the entry at i writes an operation, which makes the node
   record WrittenAt (i : ℕ) : Type 0 where
@@ -98,32 +100,40 @@ module _ (r : Rule) where
       }
 
   -- ---- the cells
-  pub offset_is : (i : ℕ) → i ≤ length (listed r) → offset (shape r) i ≡ length (listed r) * (horizon (formula r) + 1) + sum entry_width (take i (listed r))
+  pub offset_is : (i : ℕ) → i ≤ length (listed r) → offset (shape r) i ≡ length (listed r) * (horizon (formula r) + 1) + sum_by entry_width (take i (listed r))
   offset_is zero le = omega arith
   offset_is (suc i) le =
       let w = written_at i le in
       let one : run_width (node_of i (part r i)) ≡ entry_width (get_or (listed r) i blank) = ap run_width w.makes ∙ sym (writes_run (get_or (listed r) i blank) w.op i w.below w.writes) in
-      let more : sum entry_width (take (suc i) (listed r)) ≡ sum entry_width (take i (listed r)) + entry_width (get_or (listed r) i blank) = ap (λ k. sum entry_width (take k (listed r))) (sym (add-one i)) ∙ sum_more entry_width (listed r) i blank le in
+      let more : sum_by entry_width (take (suc i) (listed r)) ≡ sum_by entry_width (take i (listed r)) + entry_width (get_or (listed r) i blank) = ap (λ k. sum_by entry_width (take k (listed r))) (sym (add-one i)) ∙ sum_by_more entry_width (listed r) i blank le in
       omega (arith, offset_is i (omega arith), one, more)
 
   pub need_is : rule_need.need (zone r) (formula r) ≡ need (shape r)
   need_is =
       let all : length (listed r) ≡ entries (formula r) = written_length (listed r) (spelled (formula r)) (whole_is r).spells ∙ spelled-length (formula r) in
-      let wide : sum entry_width (take (length (listed r)) (listed r)) ≡ widths (formula r) = ap (sum entry_width) (take_all (length (listed r)) (listed r) (omega arith)) ∙ widths_is (listed r) (formula r) (whole_is r).spells in
+      let wide : sum_by entry_width (take (length (listed r)) (listed r)) ≡ widths (formula r) = ap (sum_by entry_width) (take_all (length (listed r)) (listed r) (omega arith)) ∙ widths_is (listed r) (formula r) (whole_is r).spells in
       let rings : length (listed r) * (horizon (formula r) + 1) ≡ entries (formula r) * (horizon (formula r) + 1) = ap (λ n. n * (horizon (formula r) + 1)) all in
       omega (arith, offset_is (length (listed r)) (omega arith), wide, rings)
 
+  pub zone_size : {m : ℕ} {z : HeadSet} → m ≡ length (heads z.bits) → z ≡ r.zone → m ≡ length (zone r)
+  zone_size e same = e ∙ ap (λ z. length (heads z.bits)) same
+
   -- the tests of a zone's heads lie last
-  pub tests_place : (n m : ℕ) → n ≡ rule_need.need (zone r) (formula r) → m ≡ length (zone r) → length (zone r) ≡ (shape r).room → n - m ≡ offset (shape r) (length (listed r))
-  tests_place n m e em er = omega (arith, need_is)
+  pub record TestsAt (n m : ℕ) : Type 0 where
+    pub fits : m ≤ n
+    pub place : n - m ≡ offset (shape r) (length (listed r))
+    pub room : n - m + length (zone r) ≡ need (shape r)
+
+  pub tests_at : {n m : ℕ} {z : HeadSet} → n ≡ rule_need.need (zone r) (formula r) → m ≡ length (heads z.bits) → z ≡ r.zone → length (zone r) ≡ (shape r).room → TestsAt n m
+  tests_at e em same er =
+      let size = zone_size em same in
+      record { fits = omega (arith, need_is); place = omega (arith, need_is); room = omega (arith, need_is) }
 
   zone_room : (i : ℕ) → i < length (listed r) → zone_node (node_of i (part r i)) ≡ true → zone_tested (formula r) ≡ true
   zone_room i lt e =
       let w = written_at i lt in
       let here : tests_zone (get_or (listed r) i blank) ≡ true = writes_zone (get_or (listed r) i blank) w.op i w.below w.writes ∙ ap zone_node (sym w.makes) ∙ e in
-      let k : ℕ = length (listed r) - (i + 1) in
-      let all : k + (i + 1) ≡ length (listed r) = omega arith in
-      sym (zone_is (listed r) (formula r) (whole_is r).spells) ∙ ap (any tests_zone) (sym (take_all (k + (i + 1)) (listed r) (omega arith))) ∙ any_at tests_zone (listed r) blank i k lt (omega arith) here
+      sym (zone_is (listed r) (formula r) (whole_is r).spells) ∙ list_any_at tests_zone (listed r) i blank lt here
 
   -- ---- the entries
   seen : (h : ℕ) → reads (zone r) (formula r) h ≡ true → Seen (shape r) h
@@ -132,7 +142,7 @@ module _ (r : Rule) where
   fair : (i : ℕ) (φ : Formula) → part r i ≡ φ → i < length (listed r) → Operands (part r) i φ → Ranged (zone r) φ → ((h : ℕ) → reads (zone r) φ h ≡ true → reads (zone r) (formula r) h ≡ true) → Fair (shape r) i (node_of i φ)
   fair i (head_test h s l) e lt o p sees = (seen h (sees h (eq-eqb h h refl)), ap horizon e)
   fair i (zone_test k s l) e lt o p sees = (
-    all_among (Seen (shape r)) (zone r) (λ h m. seen h (sees h m)),
+    All-from_recursion (Seen (shape r)) (zone r) (all_among (Seen (shape r)) (zone r) (λ h m. seen h (sees h m))),
     sym (cond-true _ _ _ (zone_room i lt (ap (λ φ. zone_node (node_of i φ)) e))),
     p.0,
     p.1,
@@ -148,13 +158,10 @@ module _ (r : Rule) where
   room_few true n h = h
   room_few false n h = omega arith
 
-  pub few_heads : length (zone r) ≤ 32
-  few_heads = (whole_is r).lawful.few_heads
-
   pub lawful : Lawful (shape r)
   lawful = record {
-    some = omega (arith, r.listed, some r);
-    few = omega (arith, r.listed, r.few);
+    some = omega (arith, listed-length r, some r);
+    few = omega (arith, listed-length r, r.lines.few);
     small = omega (arith, (whole_is r).lawful.near);
     zoned = room_few (zone_tested (formula r)) (length (zone r)) (whole_is r).lawful.few_heads;
     near = λ i lt. omega (arith, (part_is r i (within i lt)).near);
@@ -163,6 +170,14 @@ module _ (r : Rule) where
 
   pub ready : (n lent : ℕ) → n ≡ rule_need.need (zone r) (formula r) → n ≤ lent → Ready (shape r) lent
   ready n lent e le = record { lawful = lawful; enough = omega (arith, need_is) }
+
+  pub standing : (lent : ℕ) → need (shape r) ≤ lent → Ready (shape r) lent
+  standing lent le = record { lawful = lawful; enough = le }
+
+  pub node_there : (i : ℕ) (o : Option Node) (node : Node) → o ≡ Some node → option_map model o ≡ node_at r i → i < length (listed r) → model node ≡ (shape r).nodes i
+  node_there i o node is e lt =
+      let there : Some (model node) ≡ Some ((shape r).nodes i) = ap (option_map model) (sym is) ∙ e ∙ cond-true _ _ _ (lt-ltb i r.lines.count (within i lt)) in
+      cc
 
   -- ---- the margins of the entries' formulas are as the nodes say
   pub wanted : (mark : ℤ → ℤ) (x : Signal) → Wanted mark (shape r) x (λ i p. margin mark (zone r) (part r i) x p)

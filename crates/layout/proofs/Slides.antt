@@ -9,9 +9,10 @@ use Rattle.formulas.specs.Margin.{polls}
 use Rattle.formulas.proofs.Stretches.{length_polls}
 use Rattle.runs.specs.Cells.{wholes, InOrder, PutIn, Replaced}
 use Rattle.runs.specs.Highest.{hit, tally, highest, kth}
-use Rattle.runs.specs.Order.{copies, whole_eq}
+use Rattle.std.specs.Ordering.{int_eq}
+use Rattle.runs.specs.Order.{copies}
 use Rattle.runs.proofs.Kths.{Alike, highest_alike, highest_is, kth_exists, slides}
-use Rattle.runs.proofs.Ordered.{whole_eq_refl, tally_yes}
+use Rattle.runs.proofs.Ordered.{eq_self, tally_yes}
 use Rattle.runs.proofs.Tallies.{tally-append}
 use Rattle.layout.specs.Cells.{Outside, latest, Run}
 use Rattle.layout.proofs.Frames.{outside_between}
@@ -53,7 +54,7 @@ module _ {M : Type 0} (whole : M → ℤ) (f : ℕ → ℤ) (from w : ℕ) where
       let before = wholes whole w (between from (from + w) xs) in
       let mid = latest f c (w - 1) in
       let was : latest f c w ≡ whole old ∷ mid = oldest f c w some full ∙ ap (λ z. z ∷ mid) (sym is) in
-      let there : 0 < copies (whole old) before = omega (arith, r.alike (whole_eq (whole old)), ap (copies (whole old)) was, tally_yes (whole_eq (whole old)) (whole old) mid (whole_eq_refl (whole old))) in
+      let there : 0 < copies (whole old) before = omega (arith, r.alike (int_eq (whole old)), ap (copies (whole old)) was, tally_yes (int_eq (whole old)) (whole old) mid (eq_self (whole old))) in
       let yes : found ≡ true = t.told r.order ∙ lt-ltb 0 (copies (whole old) before) there in
       let gives = t.keeps yes r.order in
       let again : mid ++ (whole new ∷ []) ≡ latest f (c + 1) w

@@ -96,10 +96,7 @@ module _ (sh : Shape) where
       others = λ want n j within ne s. record { ring = zone_ring xs ys o want n j within s.ring; run = zone_run xs ys o want n j within s.run };
     }
 
-    -- ---- nothing was written, and one write after another
-    pub leaves_same : (i : ℕ) (xs : List M) → Leaves sh whole i xs xs
-    leaves_same i xs = record { long = refl; behind = refl; others = λ want n j within ne s. s }
-
+    -- ---- one write after another
     pub leaves_both : (i : ℕ) (xs ys zs : List M) → Leaves sh whole i xs ys → Leaves sh whole i ys zs → Leaves sh whole i xs zs
     leaves_both i xs ys zs a b = record {
       long = b.long ∙ a.long;

@@ -5,11 +5,11 @@
 --     need          how many cells the layout takes
 --     Lawful        what a step may rely on
 use Rattle.std.specs.Prelude.{◌≡◌, ℕ, zero, suc, ◌+◌, ◌*◌, ◌<◌, ◌≤◌, Bool, true, cond, List, length}
-use Rattle.std.specs.List.{AllByRecursion}
+use Rattle.std.specs.List.{All}
 use Rattle.entries.specs.Heads.{head_total}
 use Rattle.formulas.specs.Formula.{width, horizon, reads}
 use Rattle.rules.specs.Needs.{zone_tested}
-use Rattle.rules.specs.Nodes.{NodeModel, HeadTest, ZoneTest, Not, Either, Both, Window, node_of}
+use Rattle.rules.specs.Nodes.{NodeModel, HeadTest, ZoneTest, Not, Either, Both, Window, window_width, node_of}
 use Rattle.rules.specs.Rules.{listed, formula, part}
 use Rattle.rules.specs.Rules as rules
 use Rattle.rules.specs.declared.rule.Rule.{Rule}
@@ -40,12 +40,7 @@ shape r = record {
 
 -- the cells of an entry's run: a window has one for each of its polls
 abbrev pub run_width : NodeModel → ℕ
-run_width (HeadTest h s l) = 0
-run_width (ZoneTest k s l) = 0
-run_width (Not i) = 0
-run_width (Either i j) = 0
-run_width (Both i j) = 0
-run_width (Window i a b k) = width a b
+run_width = window_width
 
 -- the rings of all entries come first, then their runs
 abbrev pub offset : Shape → ℕ → ℕ
@@ -63,7 +58,7 @@ Seen sh h = (h < head_total) × (sh.reads h ≡ true)
 -- the operands of entry i come before it, that of a window right before it, and it looks as far as they make it
 abbrev pub Fair : Shape → ℕ → NodeModel → Type 0
 Fair sh i (HeadTest h s l) = Seen sh h × (sh.hz i ≡ 0)
-Fair sh i (ZoneTest k s l) = AllByRecursion (Seen sh) sh.zone × (length sh.zone ≡ sh.room) × (1 ≤ k) × (k ≤ length sh.zone) × (sh.hz i ≡ 0)
+Fair sh i (ZoneTest k s l) = All (Seen sh) sh.zone × (length sh.zone ≡ sh.room) × (1 ≤ k) × (k ≤ length sh.zone) × (sh.hz i ≡ 0)
 Fair sh i (Not j) = (j < i) × (sh.hz j ≤ sh.hz i)
 Fair sh i (Either j k) = (j < i) × (k < i) × (sh.hz j ≤ sh.hz i) × (sh.hz k ≤ sh.hz i)
 Fair sh i (Both j k) = (j < i) × (k < i) × (sh.hz j ≤ sh.hz i) × (sh.hz k ≤ sh.hz i)

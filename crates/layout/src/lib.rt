@@ -2,12 +2,10 @@
 // window, and the tests of a zone's heads.
 #![tactic(auto)]
 
-mod entering;
+mod entry_step;
 mod nodes;
-mod parts;
 mod rings;
+mod row;
 mod rows;
-mod windows;
-mod zones;
 
 pub use rows::{latest_margin, take_row};

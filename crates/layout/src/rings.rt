@@ -1,37 +1,74 @@
 // Rings: the latest margins of each entry.
-ghost use Rattle.std.specs.Prelude.{◌≡◌, ◌+◌, ◌*◌, ◌%◌, ◌<◌, length, ℤ, slice_set};
-ghost use Rattle.layout.specs.Shape.{shape, Ready};
-ghost use Rattle.layout.specs.Steps.{Back};
+ghost use Rattle.std.specs.Prelude.{◌≡◌, ℕ, ◌+◌, ◌-◌, ◌*◌, ◌%◌, ◌<◌, ◌≤◌, length, ℤ};
+ghost use Rattle.layout.specs.Shape.{shape, need};
+ghost use Rattle.layout.specs.Slots.{RingOf};
+ghost use Rattle.layout.specs.Steps.{Back, Leaving};
 
 use crate::nodes::ring_size;
-use rules::Rule;
+use rules::{Node, Rule};
 
-// Where the margin stands that a row works out for an entry.
-fn ring_place(rule: &Rule, at: usize, row: usize, lent: usize) -> usize
-    requires ready { Ready (shape rule.now) lent }
-    requires below { at < (shape rule.now).count }
-    ensures place { result ≡ at * (shape rule.now).ring + row % (shape rule.now).ring }
-    ensures within { result < lent }
-{
-    let size = ring_size(rule);
-    at * size + row % size
+// The ring of an entry, in cells that are enough for the rule.
+#[derive(Drop)]
+pub(crate) struct Ring<'a, M> {
+    pub(crate) rule: &'a Rule,
+    pub(crate) at: usize,
+    pub(crate) cells: &'a [M],
+    ghost below: { at < (shape rule.now).count },
+    ghost enough: { need (shape rule.now) ≤ length cells.now },
 }
 
-// The margin that a row worked out for an entry.
-pub(crate) fn read_back<M: Copy>(rule: &Rule, cells: &[M], of: usize, row: usize) -> M
-    requires ready { Ready (shape rule.now) (length cells.now) }
-    requires below { of < (shape rule.now).count }
-    ensures { (whole : M → ℤ) → Back (shape rule.now) whole row of cells.now result }
-{
-    cells[ring_place(rule, of, row, cells.len())]
-}
+impl<'a, M: Copy> Ring<'a, M> {
+    // How far the formula of the entry looks.
+    pub(crate) fn horizon(&self) -> u32
+        ensures { result ≡ (shape self.now.rule.now).hz self.now.at }
+    {
+        self.rule.horizon_at(self.at).unwrap()
+    }
 
-// Writes the margin that a row worked out for an entry.
-pub(crate) fn write_ring<M: Copy>(rule: &Rule, cells: &mut [M], at: usize, row: usize, m: M)
-    requires ready { Ready (shape rule.now) (length cells.old) }
-    requires below { at < (shape rule.now).count }
-    ensures { cells.new ≡ slice_set cells.old (at * (shape rule.now).ring + row % (shape rule.now).ring) m }
-{
-    let place = ring_place(rule, at, row, cells.len());
-    cells[place] = m;
+    // Where the margin stands that a row works out.
+    pub(crate) fn place(&self, row: u32) -> usize
+        ensures place { result ≡ self.now.at * (shape self.now.rule.now).ring + row % (shape self.now.rule.now).ring }
+        ensures within { result < length self.now.cells.now }
+    {
+        let size = ring_size(self.rule);
+        self.at * size + row as usize % size
+    }
+
+    // The margin that a row worked out.
+    pub(crate) fn back(&self, row: u32) -> M
+        ensures { (whole : M → ℤ) → Back (shape self.now.rule.now) whole row self.now.at self.now.cells.now result }
+    {
+        self.cells[self.place(row)]
+    }
+
+    // The margin of an operand at the poll that a row works out for the entry.
+    pub(crate) fn operand(&self, of: usize, row: u32) -> M
+        requires earlier { of < self.now.at }
+        requires nearer { (shape self.now.rule.now).hz of ≤ (shape self.now.rule.now).hz self.now.at }
+        requires ripe { (shape self.now.rule.now).hz self.now.at ≤ row }
+        ensures { (whole : M → ℤ) (want : ℕ → ℕ → ℤ) → RingOf (shape self.now.rule.now) whole want (row + 1) of self.now.cells.now → whole result ≡ want of (row - (shape self.now.rule.now).hz self.now.at) }
+    {
+        let ring = Ring {
+            rule: self.rule,
+            at: of,
+            cells: self.cells,
+        };
+        let back = self.horizon() - ring.horizon();
+        ring.back(row - back)
+    }
+
+    // The margin that leaves the window over the entry with a row; none where there is no such window, or it is not full.
+    pub(crate) fn leaving(&self, row: u32) -> Option<M>
+        ensures { (whole : M → ℤ) → self.now.at + 1 < (shape self.now.rule.now).count → Leaving (shape self.now.rule.now) whole row (self.now.at + 1) self.now.cells.now result }
+    {
+        // One pattern for both ways to be no window.
+        let Some(over @ Node::Window { .. }) = self.rule.node(self.at + 1) else {
+            return None;
+        };
+        let width = over.width();
+        if row < self.horizon() + width {
+            return None;
+        }
+        Some(self.back(row - width))
+    }
 }

@@ -1,54 +1,19 @@
 // The cells of a watch, row by row.
-ghost use Rattle.std.specs.Prelude.{◌≡◌, ◌^◌, ◌<◌, length, ℤ, is_some};
-ghost use Rattle.layout.specs.Shape.{shape, Ready};
-ghost use Rattle.layout.specs.Steps.{row_at, Leaving, AllEntered};
+ghost use Rattle.std.specs.Prelude.{◌≡◌, ◌<◌, length, ℤ, is_some};
+ghost use Rattle.layout.specs.Steps.{row_at};
 ghost use Rattle.layout.specs.Rows.{Advanced, has_latest, Latest};
 
-use crate::entering::enter;
-use crate::nodes::{node_at, ring_size, run_width};
-use crate::rings::read_back;
-use crate::windows::oldest;
+use crate::entry_step::EntryStep;
+use crate::nodes::ring_size;
+use crate::rings::Ring;
+use crate::row::Row;
 use records::Record;
 use rules::Rule;
 use scales::Scale;
 
-// The margin that leaves the window at an entry with this row; none past the last entry.
-fn leaving_at<M: Copy>(rule: &Rule, at: usize, rows: usize, cells: &[M]) -> Option<M>
-    requires ready { Ready (shape rule.now) (length cells.now) }
-    ensures { (whole : M → ℤ) → at < (shape rule.now).count → Leaving (shape rule.now) whole rows at cells.now result }
-{
-    if at >= rule.len() {
-        return None;
-    }
-    oldest(rule, at, rows, cells)
-}
-
-// Has every entry take a row, in order. What leaves a window is read before the entry right before it, its formula, is
-// written: where the window is as wide as the rings, the newest margin takes the place of the oldest.
-fn enter_all<S: Scale, R: Record<Reading = S::Reading>>(
-    scale: &S,
-    rule: &Rule,
-    rows: usize,
-    record: &R,
-    poll: u32,
-    cells: &mut [S::Margin],
-)
-    requires ready { Ready (shape rule.now) (length cells.old) }
-    requires rows { rows < 2 ^ 32 }
-    ensures { AllEntered (S.Scale.model scale.now) (shape rule.now) (row_at (R.Record.model «record».now) poll) rows cells.old cells.new }
-{
-    let mut from = rule.len() * ring_size(rule);
-    let mut leaving = None;
-    for at in 0..rule.len() {
-        let next = leaving_at(rule, at + 1, rows, cells);
-        enter(scale, rule, at, from, rows, leaving, record, poll, cells);
-        from += run_width(node_at(rule, at));
-        leaving = next;
-    }
-}
-
 // Takes one poll of a record as a row more, where so many rows were taken; says no, and leaves the cells, if they are fewer
-// than the rule needs.
+// than the rule needs. One refusal, with nothing to tell of it, so a yes or no. Six parameters, since a struct of rule, scale
+// and record stands in the crate above, and has its methods there.
 pub fn take_row<S: Scale, R: Record<Reading = S::Reading>>(
     scale: &S,
     rule: &Rule,
@@ -62,7 +27,33 @@ pub fn take_row<S: Scale, R: Record<Reading = S::Reading>>(
     if cells.len() < rule.need() {
         return false;
     }
-    enter_all(scale, rule, rows as usize, record, poll, cells);
+    let row = Row {
+        scale,
+        rule,
+        record,
+        poll,
+        rows,
+    };
+    let mut from = rule.len() * ring_size(rule);
+    let mut leaving = None;
+    // By its place, since an entry is asked for by it, and so is the ring before. What leaves a window is read before the entry
+    // right before it, its formula, is written: where the window is as wide as the rings, the newest margin takes the place of
+    // the oldest.
+    for at in 0..rule.len() {
+        let node = rule.node(at).unwrap();
+        let to = from + node.width() as usize;
+        let step = EntryStep {
+            row: &row,
+            at,
+            node,
+            from,
+            to,
+        };
+        let next = Ring { rule, at, cells }.leaving(rows);
+        step.enter(leaving, cells);
+        from = to;
+        leaving = next;
+    }
     true
 }
 
@@ -74,5 +65,10 @@ pub fn latest_margin<M: Copy>(rule: &Rule, rows: u32, cells: &[M]) -> Option<M>
     if cells.len() < rule.need() || rows <= rule.horizon() {
         return None;
     }
-    Some(read_back(rule, cells, rule.len() - 1, rows as usize - 1))
+    let last = Ring {
+        rule,
+        at: rule.len() - 1,
+        cells,
+    };
+    Some(last.back(rows - 1))
 }

@@ -6,45 +6,34 @@ use Rattle.std.proofs.lemmas.Bool.Decides.{nat_tests}
 use Rattle.faults.specs.Checks.{checked}
 use Rattle.records.specs.declared.entries.LogEntry.{LogEntry}
 use Rattle.records.specs.declared.refusals.LogFault.{LogFault}
-use Rattle.records.specs.declared.refusals.LogFault.TheVariants.{Record, PollFalls, HeadTwice}
+use Rattle.records.specs.declared.refusals.LogFault.TheVariants.{Record}
 use Rattle.records.specs.Model.{most_heads, most_polls}
 use Rattle.records.specs.Limits.{numbers_fault}
-use Rattle.records.specs.Log.{floor, seen, place_fault, order_fault, entry_fault, first_fault, log_fault, log_record, says, tells_of, latest_entry}
+use Rattle.records.specs.Log.{floor, seen, order_fault, entry_fault, first_fault, log_fault, log_record, says, tells_of, latest_entry}
 use Rattle.records.specs.Lookup.{blank, Rising}
 use Rattle.records.specs.Lawful.{LawfulLog, Latest, Told}
-use Rattle.records.proofs.ModelLaws.{neither, passes_by, numbers_fit, at_within}
+use Rattle.records.proofs.ModelLaws.{neither, numbers_fit, at_within}
 use Rattle.records.proofs.LogLaws.{not_carried}
-use Rattle.records.proofs.OrderLaws.{placed, rises, heads_below}
+use Rattle.records.proofs.OrderLaws.{not_twice, clear_first, rises, all_placed}
 
 -- Entries with no fault are lawful.
 
-polls_below : (heads polls n : ℕ) (bs es : List LogEntry) → first_fault heads polls n bs es ≡ None → (i : ℕ) → i < length es → (get_or es i blank).poll < polls
-polls_below heads polls n bs [] ok i lt = absurd (omega arith)
-polls_below heads polls n bs (e ∷ es) ok zero lt = (placed heads polls n bs e (neither (entry_fault heads polls n bs e) _ ok).0).0
-polls_below heads polls n bs (e ∷ es) ok (suc i) lt =
-    polls_below heads polls (n + 1) (e ∷ bs) es (neither (entry_fault heads polls n bs e) (first_fault heads polls (n + 1) (e ∷ bs) es) ok).1 i (omega arith)
-
-not_twice : (heads polls i : ℕ) (bs : List LogEntry) (e : LogEntry) → entry_fault heads polls i bs e ≡ None → seen e.head e.poll bs ≡ false
-not_twice heads polls i bs e ok =
-    let p = passes_by (ltb e.poll (floor bs)) (PollFalls i e.poll (floor bs)) (cond (seen e.head e.poll bs) (Some (HeadTwice i e.head e.poll)) None) (neither (place_fault heads polls i e) _ ok).1 in
-    (passes_by (seen e.head e.poll bs) (HeadTwice i e.head e.poll) None p.1).0
-
 unseen : (heads polls n : ℕ) (bs es : List LogEntry) → first_fault heads polls n bs es ≡ None → (j : ℕ) → j < length es → seen (get_or es j blank).head (get_or es j blank).poll bs ≡ false
 unseen heads polls n bs [] ok j lt = absurd (omega arith)
-unseen heads polls n bs (e ∷ es) ok zero lt = not_twice heads polls n bs e (neither (entry_fault heads polls n bs e) _ ok).0
+unseen heads polls n bs (e ∷ es) ok zero lt = not_twice heads polls n bs e (clear_first heads polls n bs e es ok).0
 unseen heads polls n bs (e ∷ es) ok (suc j) lt =
     (or_parts (eqb e.head (get_or es j blank).head && eqb e.poll (get_or es j blank).poll) (seen (get_or es j blank).head (get_or es j blank).poll bs)
-    (unseen heads polls (n + 1) (e ∷ bs) es (neither (entry_fault heads polls n bs e) (first_fault heads polls (n + 1) (e ∷ bs) es) ok).1 j (omega arith))).1
+    (unseen heads polls (n + 1) (e ∷ bs) es (clear_first heads polls n bs e es ok).1 j (omega arith))).1
 
 apart : (heads polls n : ℕ) (bs es : List LogEntry) → first_fault heads polls n bs es ≡ None → (i j : ℕ) → i < j → j < length es → (get_or es i blank).poll ≡ (get_or es j blank).poll → (get_or es i blank).head ≡ (get_or es j blank).head → ⊥
 apart heads polls n bs [] ok i j lt within p q = omega arith
 apart heads polls n bs (e ∷ es) ok i zero lt within p q = omega arith
 apart heads polls n bs (e ∷ es) ok zero (suc j) lt within p q =
     let d = get_or es j blank in
-    let r = (or_parts (eqb e.head d.head && eqb e.poll d.poll) (seen d.head d.poll bs) (unseen heads polls (n + 1) (e ∷ bs) es (neither (entry_fault heads polls n bs e) (first_fault heads polls (n + 1) (e ∷ bs) es) ok).1 j (omega arith))).0 in
+    let r = (or_parts (eqb e.head d.head && eqb e.poll d.poll) (seen d.head d.poll bs) (unseen heads polls (n + 1) (e ∷ bs) es (clear_first heads polls n bs e es ok).1 j (omega arith))).0 in
     both_ways _ r (and_from _ _ (eq-eqb _ _ q) (eq-eqb _ _ p))
 apart heads polls n bs (e ∷ es) ok (suc i) (suc j) lt within p q =
-    apart heads polls (n + 1) (e ∷ bs) es (neither (entry_fault heads polls n bs e) (first_fault heads polls (n + 1) (e ∷ bs) es) ok).1 i j (omega arith) (omega arith) p q
+    apart heads polls (n + 1) (e ∷ bs) es (clear_first heads polls n bs e es ok).1 i j (omega arith) (omega arith) p q
 
 -- Lawful entries have no fault.
 
@@ -83,7 +72,7 @@ numbers_clear heads polls a b c =
 
 ok_none : (o : Option LogFault) → is_ok (checked o) ≡ true → o ≡ None
 ok_none None e = refl
-ok_none (Some f) e = absurd (grind arith)
+ok_none (Some f) e = cc
 
 lawful_none : (heads polls : ℕ) (es : List LogEntry) → LawfulLog heads polls es → log_fault heads polls es ≡ None
 lawful_none heads polls es l =
@@ -98,8 +87,8 @@ none_lawful heads polls es e =
       some_head = fit.0;
       few_heads = fit.1;
       few_polls = fit.2;
-      polls_below = polls_below heads polls 0 [] es p.1;
-      heads_below = heads_below heads polls 0 [] es p.1;
+      polls_below = λ i lt. (all_placed heads polls 0 [] es p.1 i lt).0;
+      heads_below = λ i lt. (all_placed heads polls 0 [] es p.1 i lt).1;
       rising = rises heads polls 0 [] es p.1;
       once = apart heads polls 0 [] es p.1;
     }

@@ -1,21 +1,16 @@
 -- What an index of a log gives. Assumes nothing.
-use Rattle.std.proofs.Common.{◌≡◌, ℕ, zero, suc, ◌+◌, ◌-◌, ◌*◌, ◌/◌, ◌^◌, ◌<◌, ◌≤◌, Bool, true, false, cond, ◌&&◌, eqb, leb, ◌⊎◌, List, ◌++◌, length, get_or, take, set, Some, None, Option, sym, refl, ap, ◌∙◌, inl, inr, mul-le-mul_left, arith}
+use Rattle.std.proofs.Common.{◌≡◌, ℕ, zero, suc, ◌+◌, ◌-◌, ◌*◌, ◌/◌, ◌<◌, ◌≤◌, Bool, true, false, cond, ◌&&◌, eqb, leb, ◌⊎◌, List, ◌++◌, length, get_or, take, drop, set, find, reverse, Some, None, Option, sym, refl, ap, ◌∙◌, inl, inr, arith}
+use Rattle.std.specs.Option.{option_or}
 use Rattle.std.proofs.lemmas.Nat.{mul-add-lt}
-use Rattle.std.proofs.lemmas.Bool.Decides.{Decides-below_and}
-use Rattle.std.proofs.lemmas.Bool.{le-leb, leb-true, eqb-true, and_parts, and_from, eq-eqb, ne_eqb, cases_eq, cases_lt, cond-true, cond-false}
+use Rattle.std.proofs.lemmas.Bool.{le-leb, eq-eqb, ne_eqb, cases_eq, cases_lt, cond-true, cond-false}
 use Rattle.std.proofs.lemmas.List.{get_or-set_same, get_or-set_other, length-take-le, get_or_append_left, get_or-append_right, get_or-take}
 use borrow.Rule.Slice.PartMut.{put_mid, post_of}
 use Rattle.records.specs.declared.entries.LogEntry.{LogEntry}
 use Rattle.records.specs.Log.{latest_entry}
 use Rattle.records.specs.Lookup.{blank, Upto}
-use Rattle.records.specs.Marks.{mark, Marked, room, stride, all_below, mark_right, is_index}
+use Rattle.records.specs.Marks.{mark, at_mark, IsRow, Marked, room, stride}
 use Rattle.records.specs.Model.{most_heads}
-use Rattle.records.proofs.LookupLaws.{latest_more}
-
--- the entry that a mark names
-abbrev pub at_mark : List LogEntry → ℕ → Option LogEntry
-at_mark es zero = None
-at_mark es (suc p) = Some (get_or es p blank)
+use Rattle.records.proofs.LookupLaws.{latest_more, latest_from}
 
 cond_le : (b : Bool) (i m : ℕ) → m ≤ i → cond b (suc i) m ≤ suc i
 cond_le true i m le = omega arith
@@ -25,8 +20,8 @@ pub mark_le : (h : ℕ) (es : List LogEntry) (i : ℕ) → mark h es i ≤ i
 mark_le h es zero = omega arith
 mark_le h es (suc i) = cond_le (eqb (get_or es i blank).head h) i (mark h es i) (mark_le h es i)
 
-step : (es : List LogEntry) (j m : ℕ) (b c : Bool) (l : Option LogEntry) → c ≡ true → l ≡ at_mark es m → cond (b && c) (Some (get_or es j blank)) l ≡ at_mark es (cond b (suc j) m)
-step es j m true c l ok e = ap (λ x. cond x (Some (get_or es j blank)) l) ok
+step : (es : List LogEntry) (j m : ℕ) (b c : Bool) (l : Option LogEntry) → c ≡ true → l ≡ at_mark es m → option_or (cond (b && c) (Some (get_or es j blank)) None) l ≡ at_mark es (cond b (suc j) m)
+step es j m true c l ok e = ap (λ x. option_or (cond x (Some (get_or es j blank)) None) l) ok
 step es j m false c l ok e = e
 
 -- where all polls before i are early, the mark at i names the latest entry
@@ -38,11 +33,6 @@ marked_latest h t es (suc j) le early =
     ap (λ n. latest_entry h t (take n es)) e
     ∙ latest_more h t j es lt
     ∙ step es j (mark h es j) (eqb (get_or es j blank).head h) (leb (get_or es j blank).poll t) (latest_entry h t (take j es)) (le-leb _ t (early j (omega arith))) (marked_latest h t es j (omega arith) (λ k o. early k (omega arith)))
-
-pub cell_below : (heads n end h : ℕ) (len : ℕ) → (n / stride + 1) * heads ≤ len → end ≤ n → h < heads → end / stride * heads + h < len
-cell_below heads n end h len room le lt =
-    let q : end / stride < n / stride + 1 = omega arith in
-    omega (arith, mul-add-lt (end / stride) heads h (n / stride + 1) q lt)
 
 module _ (heads : ℕ) (es : List LogEntry) (ms : List ℕ) (m : Marked heads es ms) (h t end : ℕ) (u : Upto es t end) (lt : h < heads) where
   pub mark_below : get_or ms (end / stride * heads + h) 0 ≤ end
@@ -56,27 +46,37 @@ module _ (heads : ℕ) (es : List LogEntry) (ms : List ℕ) (m : Marked heads es
       marked_latest h t es (end / stride * stride) (omega (arith, u.within)) (λ k o. u.early k (omega arith))
       ∙ ap (at_mark es) (sym (m.rows (end / stride) h b lt))
 
-pub at_nonzero : (es : List LogEntry) (x : ℕ) → (x ≡ 0 → ⊥) → at_mark es x ≡ Some (get_or es (x - 1) blank)
-at_nonzero es zero ne = absurd (ne refl)
-at_nonzero es (suc p) ne = let e : p ≡ suc p - 1 = omega arith in ap (λ n. Some (get_or es n blank)) e
+  -- the search from the row on, and then by the mark
+  latest_marked : latest_entry h t es ≡ option_or (find (λ e. eqb e.head h) (reverse (take (end - end / stride * stride) (drop (end / stride * stride) es)))) (at_mark es (get_or ms (end / stride * heads + h) 0))
+  latest_marked =
+      latest_from h t end (end / stride * stride) es u (omega arith)
+      ∙ ap (option_or (find (λ e. eqb e.head h) (reverse (take (end - end / stride * stride) (drop (end / stride * stride) es))))) found_mark
 
--- one entry more in the table
-pub absorbed : (ts : List ℕ) (es : List LogEntry) (i : ℕ) → length ts ≡ most_heads → (get_or es i blank).head < most_heads → ((h : ℕ) → h < most_heads → get_or ts h 0 ≡ mark h es i) → (h : ℕ) → h < most_heads → get_or (set ts (get_or es i blank).head (i + 1)) h 0 ≡ mark h es (i + 1)
-absorbed ts es i len lt all h o = by (cases_eq h (get_or es i blank).head) ∙ ap (mark h es) one
+  module _ (last : Option LogEntry) (is : last ≡ find (λ e. eqb e.head h) (reverse (take (end - end / stride * stride) (drop (end / stride * stride) es)))) where
+    pub latest_or : option_or last (at_mark es (get_or ms (end / stride * heads + h) 0)) ≡ latest_entry h t es
+    latest_or = sym (latest_marked ∙ ap (λ o. option_or o (at_mark es (get_or ms (end / stride * heads + h) 0))) (sym is))
+
+-- one entry more in a row
+pub absorbed : (row : List ℕ) (es : List LogEntry) (i k : ℕ) (e : LogEntry) → e ≡ get_or es i blank → k ≡ i + 1 → length row ≡ most_heads → e.head < most_heads → IsRow most_heads es i row → IsRow most_heads es k (set row e.head (i + 1))
+absorbed row es i k e is next len lt old h o = by (cases_eq h e.head) ∙ ap (mark h es) one
   where
-    one : suc i ≡ i + 1
+    one : suc i ≡ k
     one = omega arith
 
-    by : (h ≡ (get_or es i blank).head) ⊎ (h ≡ (get_or es i blank).head → ⊥) → get_or (set ts (get_or es i blank).head (i + 1)) h 0 ≡ mark h es (suc i)
-    by (inl is) =
-        ap (λ k. get_or (set ts (get_or es i blank).head (i + 1)) k 0) is
-        ∙ get_or-set_same ts (get_or es i blank).head (i + 1) 0 (omega arith)
-        ∙ sym one
-        ∙ sym (cond-true (eqb (get_or es i blank).head h) (suc i) (mark h es i) (eq-eqb _ _ (sym is)))
+    same : (get_or es i blank).head ≡ e.head
+    same = ap (λ (x : LogEntry). x.head) (sym is)
+
+    by : (h ≡ e.head) ⊎ (h ≡ e.head → ⊥) → get_or (set row e.head (i + 1)) h 0 ≡ mark h es (suc i)
+    by (inl own) =
+        let up : i + 1 ≡ suc i = omega arith in
+        ap (λ n. get_or (set row e.head (i + 1)) n 0) own
+        ∙ get_or-set_same row e.head (i + 1) 0 (omega arith)
+        ∙ up
+        ∙ sym (cond-true (eqb (get_or es i blank).head h) (suc i) (mark h es i) (eq-eqb _ _ (same ∙ sym own)))
     by (inr ne) =
-        get_or-set_other ts (get_or es i blank).head h (i + 1) 0 ne
-        ∙ all h o
-        ∙ sym (cond-false (eqb (get_or es i blank).head h) (suc i) (mark h es i) (ne_eqb _ _ (λ q. ne (sym q))))
+        get_or-set_other row e.head h (i + 1) 0 ne
+        ∙ old h o
+        ∙ sym (cond-false (eqb (get_or es i blank).head h) (suc i) (mark h es i) (ne_eqb _ _ (λ q. ne (sym (sym same ∙ q)))))
 
 pub row_end : (heads rows b len : ℕ) → rows * heads ≤ len → b < rows → b * heads + heads ≤ len
 row_end zero rows b len room lt = omega arith
@@ -111,31 +111,3 @@ rows_more heads n k xs ys es within len old new b h lt o = by (cases_lt b n)
         ∙ put_row (n * heads) k xs ys within h (omega arith)
         ∙ new h o
         ∙ ap (λ m. mark h es (m * stride)) (sym is)
-
--- a lawful log's index takes a number of marks that fits
-pub room_fits : (heads n : ℕ) → heads ≤ most_heads → n < 2 ^ 64 → room heads n ≤ 2 ^ 64 - 1
-room_fits heads n few long = omega (arith, mul-le-mul_left (n / stride + 1) few)
-
--- The test says that the marks are the index.
-
-all_at : (test : ℕ → Bool) (n k : ℕ) → all_below test n ≡ true → k < n → test k ≡ true
-all_at test n k = λ e lt. (Decides-below_and test (λ k. test k ≡ true) (all_below test) (λ k. ((λ e. e), (λ e. e))) refl (λ n. refl) n).0 e k lt
-
-all_from : (test : ℕ → Bool) (n : ℕ) → ((k : ℕ) → k < n → test k ≡ true) → all_below test n ≡ true
-all_from test n = (Decides-below_and test (λ k. test k ≡ true) (all_below test) (λ k. ((λ e. e), (λ e. e))) refl (λ n. refl) n).1
-
-module _ (heads : ℕ) (es : List LogEntry) (marks : List ℕ) where
-  pub index_marked : is_index heads es marks ≡ true → Marked heads es marks
-  unfolding is_index
-  index_marked e =
-      let p = and_parts (leb (room heads (length es)) (length marks)) (all_below (λ b. all_below (mark_right heads es marks b) heads) (length es / stride + 1)) e in
-      record {
-        holds = leb-true _ _ p.0;
-        rows = λ b h lb lh. eqb-true _ _ (all_at (mark_right heads es marks b) heads h (all_at (λ b. all_below (mark_right heads es marks b) heads) _ b p.1 lb) lh);
-      }
-
-  pub marked_index : Marked heads es marks → is_index heads es marks ≡ true
-  unfolding is_index
-  marked_index m =
-      and_from _ _ (le-leb _ _ m.holds)
-      (all_from (λ b. all_below (mark_right heads es marks b) heads) _ (λ b lb. all_from (mark_right heads es marks b) heads (λ h lh. eq-eqb _ _ (m.rows b h lb lh))))

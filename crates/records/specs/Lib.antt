@@ -9,3 +9,4 @@ pub mod Log
 pub mod Lookup
 pub mod Marks
 pub mod Lawful
+pub mod Timeline

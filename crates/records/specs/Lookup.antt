@@ -10,6 +10,10 @@ blank = record { poll = 0; head = 0; word = 0 }
 abbrev pub Rising : List LogEntry → Type 0
 Rising es = (i j : ℕ) → i ≤ j → j < length es → (slice_index_or es i blank).poll ≤ (slice_index_or es j blank).poll
 
+-- each entry is of a head below so many
+abbrev pub HeadsBelow : ℕ → List LogEntry → Type 0
+HeadsBelow heads es = (i : ℕ) → i < length es → (slice_index_or es i blank).head < heads
+
 -- just the first n entries come at or before the poll
 pub record Upto (es : List LogEntry) (poll n : ℕ) : Type 0 where
   pub within : n ≤ length es

@@ -21,6 +21,7 @@ impl<'a, R: Record> Excerpt<'a, R> {
     }
 }
 
+#[tactic(auto, unfolding(crate::specs::Excerpt::excerpt_record))]
 impl<'a, R: Record> Record for Excerpt<'a, R> {
     type Reading = R::Reading;
 

@@ -6,11 +6,11 @@ mod excerpts;
 mod grids;
 mod limits;
 mod logs;
-mod lookup;
 mod marks;
 mod order;
 mod readings;
 mod refusals;
+mod timeline;
 mod words;
 
 pub use entries::LogEntry;

@@ -17,7 +17,7 @@ pub trait Record {
     fn polls(&self) -> u32
         ensures { result ≡ (model self.now).polls };
 
-    // The reading of the head at the poll, or none.
+    // The reading of the head at the poll, or none. Any two numbers may be asked, so they are no struct of their own.
     fn reading(&self, head: u32, poll: u32) -> Option<Self::Reading>
         ensures { result ≡ (model self.now).at head poll };
 }

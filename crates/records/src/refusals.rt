@@ -1,7 +1,8 @@
 // Why a record or a log is refused.
-ghost use Rattle.std.specs.Prelude.{Some};
+ghost use Rattle.std.specs.Prelude.{◌≡◌, Some};
 ghost use Rattle.records.specs.Faults.{record_ground, log_ground};
 ghost use Rattle.records.specs.Texts.{record_fault_text, log_fault_text};
+ghost use Rattle.records.specs.declared.refusals.LogFault.TheVariants.{Record};
 
 use crate::limits::{HEADS, POLLS};
 use faults::{Fault, Ground, Layer, Place};
@@ -101,16 +102,25 @@ pub enum LogFault {
     },
 }
 
+// The record's fault is carried whole.
+impl From<RecordFault> for LogFault {
+    ghost from_gives = { λ cause fault. fault ≡ Record cause };
+
+    fn from(cause: RecordFault) -> LogFault {
+        LogFault::Record(cause)
+    }
+}
+
 impl Fault for LogFault {
     ghost cause = { log_ground };
 
     fn ground(&self) -> Ground {
         let entry = match *self {
             LogFault::Record(fault) => return fault.ground(),
-            LogFault::PollOutside { entry, .. } => entry,
-            LogFault::HeadOutside { entry, .. } => entry,
-            LogFault::PollFalls { entry, .. } => entry,
-            LogFault::HeadTwice { entry, .. } => entry,
+            LogFault::PollOutside { entry, .. }
+            | LogFault::HeadOutside { entry, .. }
+            | LogFault::PollFalls { entry, .. }
+            | LogFault::HeadTwice { entry, .. } => entry,
         };
         Ground {
             number: 7,

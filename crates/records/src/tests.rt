@@ -21,12 +21,8 @@ const ENTRIES: [LogEntry; 3] = [
 ];
 
 // What the head reads at polls 0 to 2.
-fn reads<R: Record>(log: &R, head: u32) -> [Option<R::Reading>; 3] {
-    [
-        log.reading(head, 0),
-        log.reading(head, 1),
-        log.reading(head, 2),
-    ]
+fn reads<R: Record>(record: &R, head: u32) -> [Option<R::Reading>; 3] {
+    [0, 1, 2].map(|poll| record.reading(head, poll))
 }
 
 #[test]

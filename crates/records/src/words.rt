@@ -6,7 +6,8 @@ ghost use Rattle.std.specs.Int.{w32};
 
 use std::num;
 
-// A reading that a 32-bit word spells.
+// A reading that a 32-bit word spells. A trait of its own: From<u32> of i32 and of f32 is not for
+// this crate to implement.
 pub trait Word: Copy {
     ghost spelled: { ℕ → Self };
 

@@ -72,7 +72,7 @@ module _ (z : List ℕ) (es : List Entry) where
 
   alone_one : (φ : Formula) (st : List Formula) → st ≡ [] → alone (φ ∷ st) ≡ true
   alone_one φ [] e = refl
-  alone_one φ (ψ ∷ st) e = let bad : ◌≡◌ {A = ℕ} 0 1 = cc in absurd (omega arith)
+  alone_one φ (ψ ∷ st) e = absurd (cc)
 
   outside_none : (h : ℕ) → among h z ≡ true → (s : _) (l : _) → outside z (HeadTest h s l) ≡ None
   outside_none h e s l = cond-true _ _ _ e
@@ -131,9 +131,9 @@ module _ (z : List ℕ) (es : List Entry) where
   spelled_by p = written z es (spelled (newest p.formulas)) (spells z es p.formulas (omega (arith, p.fair.some)) p.after)
 
   one_left : (n : ℕ) (st : List Formula) → alone st ≡ true → stack z es n ≡ Ok st → stack z es n ≡ Ok (newest st ∷ [])
-  one_left n [] o e = let bad : ◌≡◌ {A = ℕ} 0 1 = cc in absurd (omega arith)
+  one_left n [] o e = absurd (cc)
   one_left n (φ ∷ []) o e = e
-  one_left n (φ ∷ (ψ ∷ st)) o e = let bad : ◌≡◌ {A = ℕ} 0 1 = cc in absurd (omega arith)
+  one_left n (φ ∷ (ψ ∷ st)) o e = absurd (cc)
 
   lawful_by : (p : Passed z es) → Lawful z (newest p.formulas)
   lawful_by p =

@@ -36,24 +36,24 @@ built_taller (Window a b p) [] = tt
 built_taller (Window a b p) (φ ∷ st) = (omega arith, omega arith)
 
 alone_tallest : (st : List Formula) → alone st ≡ true → tallest st ≡ horizon (newest st)
-alone_tallest [] e = absurd (both_ways _ refl e)
+alone_tallest [] e = absurd (cc)
 alone_tallest (φ ∷ []) e = omega arith
-alone_tallest (φ ∷ (ψ ∷ st)) e = absurd (both_ways _ refl e)
+alone_tallest (φ ∷ (ψ ∷ st)) e = absurd (cc)
 
 -- an operation leaves a formula
 never : (op : OperationModel) (st : List Formula) → built op st ≡ Some [] → ⊥
-never (HeadTest h s l) st e = let bad : ◌≡◌ {A = ℕ} 0 1 = cc in omega arith
-never (ZoneTest k s l) st e = let bad : ◌≡◌ {A = ℕ} 0 1 = cc in omega arith
-never Not [] e = let bad : ◌≡◌ {A = ℕ} 0 1 = cc in omega arith
-never Not (φ ∷ st) e = let bad : ◌≡◌ {A = ℕ} 0 1 = cc in omega arith
-never Either [] e = let bad : ◌≡◌ {A = ℕ} 0 1 = cc in omega arith
-never Either (ψ ∷ []) e = let bad : ◌≡◌ {A = ℕ} 0 1 = cc in omega arith
-never Either (ψ ∷ (φ ∷ st)) e = let bad : ◌≡◌ {A = ℕ} 0 1 = cc in omega arith
-never Both [] e = let bad : ◌≡◌ {A = ℕ} 0 1 = cc in omega arith
-never Both (ψ ∷ []) e = let bad : ◌≡◌ {A = ℕ} 0 1 = cc in omega arith
-never Both (ψ ∷ (φ ∷ st)) e = let bad : ◌≡◌ {A = ℕ} 0 1 = cc in omega arith
-never (Window a b p) [] e = let bad : ◌≡◌ {A = ℕ} 0 1 = cc in omega arith
-never (Window a b p) (φ ∷ st) e = let bad : ◌≡◌ {A = ℕ} 0 1 = cc in omega arith
+never (HeadTest h s l) st e = cc
+never (ZoneTest k s l) st e = cc
+never Not [] e = cc
+never Not (φ ∷ st) e = cc
+never Either [] e = cc
+never Either (ψ ∷ []) e = cc
+never Either (ψ ∷ (φ ∷ st)) e = cc
+never Both [] e = cc
+never Both (ψ ∷ []) e = cc
+never Both (ψ ∷ (φ ∷ st)) e = cc
+never (Window a b p) [] e = cc
+never (Window a b p) (φ ∷ st) e = cc
 
 module _ (z : List ℕ) (es : List Entry) where
   no_taller : (n k : ℕ) (st : List Formula) → stack z es n ≡ Ok st → k < n → horizon (formula_at z es k) ≤ tallest st

@@ -1,10 +1,10 @@
 -- When a list of entries assembles, and what is known of one that does. Assumes nothing.
-use Rattle.std.proofs.Common.{◌≡◌, ℕ, suc, ◌-◌, ◌≤◌, Bool, true, false, cond, List, length, is_ok, Ok, Err, Result, sym, refl, ap, ◌∙◌, arith}
-use Rattle.std.proofs.lemmas.Bool.{leb-true, and_parts, cond-true, cond-false, both_ways}
+use Rattle.std.proofs.Common.{◌≡◌, ℕ, suc, ◌-◌, ◌≤◌, Bool, true, false, cond, ◌&&◌, List, length, is_ok, Ok, Err, Result, sym, refl, ap, ap₂, ◌∙◌, arith}
+use Rattle.std.proofs.lemmas.Bool.{leb-true, le-leb, and_parts, cond-true, cond-false}
 use Rattle.std.specs.Result.{result_unwrap_or}
 use Rattle.formulas.specs.Formula.{Formula}
 use Rattle.entries.specs.declared.entry.Entry.{Entry}
-use Rattle.rules.specs.Assemble.{starting, newest, on, stack, fair_count, fair_heads, assemble, formula_of}
+use Rattle.rules.specs.Assemble.{starting, newest, on, stack, fair, fair_count, fair_heads, assemble, formula_of}
 use Rattle.rules.specs.Spans.{left, formula_at}
 use Rattle.rules.specs.declared.fault.RuleFault.{RuleFault}
 use Rattle.rules.specs.declared.fault.RuleFault.TheVariants.{EntryCount, ZoneHeadCount}
@@ -20,6 +20,9 @@ fair_is z es c h =
     let a = and_parts _ _ c in
     let b = and_parts _ _ h in
     record { some = leb-true _ _ a.0; few = leb-true _ _ a.1; heads = leb-true _ _ b.0; near = leb-true _ _ b.1 }
+
+pub fair_true : {n most : ℕ} → 1 ≤ n → n ≤ most → fair n most ≡ true
+fair_true some few = ap₂ ◌&&◌ (le-leb _ _ some) (le-leb _ _ few)
 
 module _ (z : List ℕ) (es : List Entry) where
   all_walked : fair_count (length es) ≡ true → fair_heads (length z) ≡ true → assemble z es ≡ on (stack z es (length es)) (λ st. Ok (newest st))
@@ -58,9 +61,9 @@ unfolding assemble formula_at
 passed z es ok = go (fair_count (length es)) (fair_heads (length z)) (stack z es (length es)) refl refl refl ok
   where
     go : (b h : Bool) (r : Result (List Formula) RuleFault) → fair_count (length es) ≡ b → fair_heads (length z) ≡ h → stack z es (length es) ≡ r → is_ok (cond b (cond h (on r (λ st. Ok (newest st))) (Err (ZoneHeadCount (length z)))) (Err (EntryCount (length es)))) ≡ true → Passed z es
-    go false h r c d f e = absurd (both_ways _ refl e)
-    go true false r c d f e = absurd (both_ways _ refl e)
-    go true true (Err g) c d f e = absurd (both_ways _ refl e)
+    go false h r c d f e = absurd (cc)
+    go true false r c d f e = absurd (cc)
+    go true true (Err g) c d f e = absurd (cc)
     go true true (Ok st) c d f e =
         let fair = fair_is z es c d in
         let last : suc (length es - 1) ≡ length es = omega arith in

@@ -18,8 +18,8 @@ use Rattle.rules.proofs.Unwind.{last_entry}
 -- ---- the entries write the operations down
 pub written : (z : List ℕ) (es : List Entry) (os : List OperationModel) → decoded z es ≡ map Some os → Written es os
 written z [] [] e = tt
-written z [] (o ∷ os) e = let bad : ◌≡◌ {A = ℕ} 0 1 = cc in absurd (omega arith)
-written z (x ∷ es) [] e = let bad : ◌≡◌ {A = ℕ} 0 1 = cc in absurd (omega arith)
+written z [] (o ∷ os) e = absurd (cc)
+written z (x ∷ es) [] e = absurd (cc)
 written z (x ∷ es) (o ∷ os) e =
     let here : operation_of x (length z) ≡ Some o = cc in
     let rest : decoded z es ≡ map Some os = cc in
@@ -42,16 +42,16 @@ spelled-length (window a b p φ) = omega (arith, length-append (spelled φ) (Win
 -- ---- a head test's head is in the zone
 inside_none : {X : Type 0} (n : ℕ) (o : Option ℕ) (r : Result X RuleFault) (x : X) → inside n o r ≡ Ok x → o ≡ None
 inside_none n None r x e = refl
-inside_none n (Some h) r x e = let bad : ◌≡◌ {A = ℕ} 0 1 = cc in absurd (omega arith)
+inside_none n (Some h) r x e = absurd (cc)
 
 judged_within : (z : List ℕ) (last : Bool) (n : ℕ) (s : List Formula) (o : Option OperationModel) (st : List Formula) (op : OperationModel) → judged z last n s o ≡ Ok st → o ≡ Some op → outside z op ≡ None
-judged_within z last n s None st op e is = let bad : ◌≡◌ {A = ℕ} 0 1 = cc in absurd (omega arith)
+judged_within z last n s None st op e is = absurd (cc)
 judged_within z last n s (Some o) st op e is = let same : o ≡ op = cc in subst (λ p. outside z p ≡ None) same (inside_none n (outside z o) _ st e)
 
 -- ---- the values of the formulas left are in range
 among_since : (b : Bool) (h : ℕ) → cond b None (Some h) ≡ None → b ≡ true
 among_since true h e = refl
-among_since false h e = let bad : ◌≡◌ {A = ℕ} 0 1 = cc in absurd (omega arith)
+among_since false h e = absurd (cc)
 
 built_ranged : (z : List ℕ) (op : OperationModel) (st : List Formula) → InRange (length z) op → outside z op ≡ None → AllByRecursion (Ranged z) st → IfSome (built op st) (AllByRecursion (Ranged z))
 built_ranged z (HeadTest h s l) st r o a = ((r, among_since (among h z) h o), a)
@@ -73,13 +73,13 @@ module _ (z : List ℕ) (es : List Entry) where
   within n st op e is = go (stack z es n) e
     where
       go : (r : Result (List Formula) RuleFault) → on r (step z es n) ≡ Ok st → outside z op ≡ None
-      go (Err f) e = let bad : ◌≡◌ {A = ℕ} 0 1 = cc in absurd (omega arith)
+      go (Err f) e = absurd (cc)
       go (Ok s) e = judged_within z (eqb (suc n) (length es)) n s (operation_of (get_or es n blank) (length z)) st op e is
 
   all_ranged : (n : ℕ) (st : List Formula) → stack z es n ≡ Ok st → AllByRecursion (Ranged z) st
   unfolding stack
   all_ranged zero [] e = tt
-  all_ranged zero (φ ∷ st) e = let bad : ◌≡◌ {A = ℕ} 0 1 = cc in absurd (omega arith)
+  all_ranged zero (φ ∷ st) e = absurd (cc)
   all_ranged (suc n) st e =
       let l = last_entry z es n st e in
       subst (λ o. IfSome o (AllByRecursion (Ranged z))) l.makes

@@ -19,7 +19,7 @@ module _ (z : List ℕ) (es : List Entry) where
     where
       go : (r : Result (List Formula) RuleFault) → stack z es n ≡ r → (s : List Formula) × (stack z es n ≡ Ok s)
       go (Ok s) is = (s, is)
-      go (Err f) is = let late = stays z es f n m le is in let bad : ◌≡◌ {A = ℕ} 0 1 = cc in absurd (omega arith)
+      go (Err f) is = let late = stays z es f n m le is in absurd (cc)
 
   pub formula_is : (n : ℕ) (st : List Formula) → stack z es (suc n) ≡ Ok st → formula_at z es n ≡ newest st
   unfolding formula_at
@@ -68,5 +68,4 @@ never_bad z es st i e lt is =
     let now = front z es (length es) (suc i) st lt e in
     let l = last_entry z es i now.0 now.1 in
     let p = l.is in
-    let bad : ◌≡◌ {A = ℕ} 0 1 = cc in
-    omega arith
+    cc

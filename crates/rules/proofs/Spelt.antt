@@ -1,7 +1,7 @@
 -- What a list that assembles spells, and the operands of each entry. Assumes nothing.
 use Rattle.std.proofs.Common.{◌≡◌, ℕ, zero, suc, ◌-◌, ◌<◌, ◌≤◌, Bool, true, false, cond, not, ◌&&◌, leb, List, [], ◌∷◌, ◌++◌, map, length, get_or, take, IfSome, Some, None, Ok, Err, Option, Result, sym, refl, ap, ◌∙◌, subst, ap₂, append_assoc, add-one, arith}
 use Rattle.std.proofs.lemmas.List.{take_more, take_all, map_push}
-use Rattle.std.proofs.lemmas.Bool.{eq-eqb, both_ways}
+use Rattle.std.proofs.lemmas.Bool.{eq-eqb}
 use Rattle.entries.specs.Decode.{operation_of}
 use Rattle.formulas.specs.Formula.{Formula, horizon}
 use Rattle.rules.specs.Spelling.{entries, spelled}
@@ -42,7 +42,7 @@ module _ (z : List ℕ) (es : List Entry) where
   spells_front : (n : ℕ) (st : List Formula) → n ≤ length es → stack z es n ≡ Ok st → decoded z (take n es) ≡ map Some (all_spelled st)
   unfolding stack
   spells_front zero [] le e = refl
-  spells_front zero (φ ∷ st) le e = let bad : ◌≡◌ {A = ℕ} 0 1 = cc in absurd (omega arith)
+  spells_front zero (φ ∷ st) le e = absurd (cc)
   spells_front (suc n) st le e =
       let l = last_entry z es n st e in
       let same : all_spelled st ≡ all_spelled l.before ++ l.op ∷ [] = subst (λ o. IfSome o (λ s. all_spelled s ≡ all_spelled l.before ++ l.op ∷ [])) l.makes (built_spelled l.op l.before) in
@@ -55,7 +55,7 @@ module _ (z : List ℕ) (es : List Entry) where
 
   top_is : (n : ℕ) (φ : Formula) (st : List Formula) → stack z es n ≡ Ok (φ ∷ st) → (0 < n) × (formula_at z es (n - 1) ≡ φ)
   unfolding stack
-  top_is zero φ st e = let bad : ◌≡◌ {A = ℕ} 0 1 = cc in absurd (omega arith)
+  top_is zero φ st e = absurd (cc)
   top_is (suc n) φ st e = let back : suc n - 1 ≡ n = omega arith in (omega arith, ap (formula_at z es) back ∙ formula_is z es n (φ ∷ st) e)
 
   built_operands : (i : ℕ) (op : OperationModel) (st : List Formula) → stack z es i ≡ Ok st → IfSome (built op st) (λ s. Operands (formula_at z es) i (newest s))
@@ -89,26 +89,26 @@ module _ (z : List ℕ) (es : List Entry) where
 
 -- the last entry leaves one formula
 conds_alone : (a b : Bool) (s st : List Formula) (f g : RuleFault) → a ≡ alone s → cond (true && not a) (Err f) (cond b (Ok s) (Err g)) ≡ Ok st → alone st ≡ true
-conds_alone false b s st f g is e = let bad : ◌≡◌ {A = ℕ} 0 1 = cc in absurd (omega arith)
-conds_alone true false s st f g is e = let bad : ◌≡◌ {A = ℕ} 0 1 = cc in absurd (omega arith)
+conds_alone false b s st f g is e = absurd (cc)
+conds_alone true false s st f g is e = absurd (cc)
 conds_alone true true s st f g is e = let same : s ≡ st = cc in ap alone (sym same) ∙ sym is
 
 settled_alone : (n : ℕ) (o : Option (List Formula)) (st : List Formula) → settled true n o ≡ Ok st → alone st ≡ true
-settled_alone n None st e = let bad : ◌≡◌ {A = ℕ} 0 1 = cc in absurd (omega arith)
+settled_alone n None st e = absurd (cc)
 settled_alone n (Some s) st e = conds_alone (alone s) (leb (horizon (newest s)) 4095) s st (TooManyFormulas n) (HorizonTooFar n (horizon (newest s))) refl e
 
 inside_alone : (h : Option ℕ) (n : ℕ) (o : Option (List Formula)) (st : List Formula) → inside n h (settled true n o) ≡ Ok st → alone st ≡ true
 inside_alone None n o st e = settled_alone n o st e
-inside_alone (Some h) n o st e = let bad : ◌≡◌ {A = ℕ} 0 1 = cc in absurd (omega arith)
+inside_alone (Some h) n o st e = absurd (cc)
 
 judged_alone : (z : List ℕ) (n : ℕ) (s : List Formula) (o : Option OperationModel) (st : List Formula) → judged z true n s o ≡ Ok st → alone st ≡ true
-judged_alone z n s None st e = let bad : ◌≡◌ {A = ℕ} 0 1 = cc in absurd (omega arith)
+judged_alone z n s None st e = absurd (cc)
 judged_alone z n s (Some op) st e = inside_alone (outside z op) n (built op s) st e
 
 only : (st : List Formula) → alone st ≡ true → all_spelled st ≡ spelled (newest st)
-only [] e = absurd (both_ways _ refl e)
+only [] e = absurd (cc)
 only (φ ∷ []) e = refl
-only (φ ∷ (ψ ∷ st)) e = absurd (both_ways _ refl e)
+only (φ ∷ (ψ ∷ st)) e = absurd (cc)
 
 module _ (z : List ℕ) (es : List Entry) where
   pub ends_alone : (n : ℕ) (st : List Formula) → suc n ≡ length es → stack z es (suc n) ≡ Ok st → alone st ≡ true
@@ -116,7 +116,7 @@ module _ (z : List ℕ) (es : List Entry) where
   ends_alone n st len e = go (stack z es n) e
     where
       go : (r : Result (List Formula) RuleFault) → on r (step z es n) ≡ Ok st → alone st ≡ true
-      go (Err f) e = let bad : ◌≡◌ {A = ℕ} 0 1 = cc in absurd (omega arith)
+      go (Err f) e = absurd (cc)
       go (Ok s) e = judged_alone z n s (operation_of (get_or es n blank) (length z)) st (ap (λ b. judged z b n s (operation_of (get_or es n blank) (length z))) (sym (eq-eqb (suc n) (length es) len)) ∙ e)
 
   pub spells : (st : List Formula) → 0 < length es → stack z es (length es) ≡ Ok st → decoded z es ≡ map Some (spelled (newest st))

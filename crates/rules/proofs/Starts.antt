@@ -1,11 +1,12 @@
 -- The starting rule, and what places hold. Assumes nothing.
-use Rattle.std.proofs.Common.{◌≡◌, ℕ, ◌<◌, cond, leb, List, [], ◌∷◌, Ok, Err, refl, ap, ◌∙◌, arith}
+use Rattle.std.proofs.Common.{◌≡◌, ℕ, ◌<◌, cond, leb, take, List, [], ◌∷◌, IsOk, Result, Ok, Err, refl, ap, ◌∙◌, arith}
 use Rattle.std.proofs.lemmas.Bool.{cond-false, cond-true, lt-leb, le-leb}
 use Rattle.formulas.specs.Formula.{Formula}
 use Rattle.entries.specs.Heads.{heads}
+use Rattle.entries.specs.declared.entry.Entry.{Entry}
 use Rattle.rules.specs.Assemble.{assemble, stack, starting}
 use Rattle.rules.specs.Places.{start_entry, or_starting, place_means, means}
-use Rattle.rules.specs.Rules.{zone, listed}
+use Rattle.rules.specs.Rules.{zone, listed, made}
 use Rattle.rules.specs.declared.fault.RuleFault.{RuleFault}
 use Rattle.rules.specs.declared.fault.RuleFault.TheVariants.{EntryCount}
 use Rattle.rules.specs.declared.place.RulePlace.{RulePlace}
@@ -32,13 +33,15 @@ overfull p h =
     ∙ ap (or_starting (heads p.zone.bits)) (none (heads p.zone.bits))
 
 -- a row with the entries and the zone of a rule
-pub holds_rule : (r : Rule) → or_starting (zone r) (assemble (zone r) (cond (leb r.count 24) (listed r) [])) ≡ means r
-holds_rule r =
-    ap (λ es. or_starting (zone r) (assemble (zone r) es)) (cond-true _ _ _ (le-leb r.count 24 r.few))
+pub holds_rule : (r : Rule) (n : ℕ) (es : List Entry) → n ≡ r.lines.count → take r.lines.count es ≡ listed r → or_starting (zone r) (assemble (zone r) (cond (leb n 24) (take n es) [])) ≡ means r
+holds_rule r n es count same =
+    ap (λ xs. or_starting (zone r) (assemble (zone r) xs)) (cond-true _ _ _ (le-leb n 24 (omega (arith, count, r.lines.few))) ∙ ap (λ k. take k es) count ∙ same)
     ∙ ap (or_starting (zone r)) (passes r).is
+
+-- what the starting entry makes
+pub makes_starting : (r : Result Rule RuleFault) (z : List ℕ) → z ≡ 0 ∷ [] → made r ≡ assemble z (start_entry ∷ []) → IsOk r
+makes_starting (Ok r) z e is = refl
+makes_starting (Err f) z e is = let s = starts z e in absurd (cc)
 
 pub only_starting : (z : List ℕ) (φ : Formula) → z ≡ 0 ∷ [] → Ok φ ≡ assemble z (start_entry ∷ []) → φ ≡ starting
 only_starting z φ e is = let s = starts z e in cc
-
-pub never_refused : (z : List ℕ) (f : RuleFault) → z ≡ 0 ∷ [] → Err f ≡ assemble z (start_entry ∷ []) → ⊥
-never_refused z f e is = let s = starts z e in let bad : ◌≡◌ {A = ℕ} 0 1 = cc in omega arith

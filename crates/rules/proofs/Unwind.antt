@@ -32,7 +32,7 @@ module _ (z : List ℕ) (es : List Entry) where
   last_entry n st e = go (stack z es n) refl e
     where
       go : (r : Result (List Formula) RuleFault) → stack z es n ≡ r → on r (step z es n) ≡ Ok st → Last z es n st
-      go (Err f) is e = let bad : ◌≡◌ {A = ℕ} 0 1 = cc in absurd (omega arith)
+      go (Err f) is e = absurd (cc)
       go (Ok before) is e =
           (subst (Fine (Last z es n)) e
           (judged_gives (Last z es n) z (eqb (suc n) (length es)) n before (operation_of (get_or es n blank) (length z))
@@ -43,7 +43,7 @@ module _ (z : List ℕ) (es : List Entry) where
   looks_near n st e = go (stack z es n) e
     where
       go : (r : Result (List Formula) RuleFault) → on r (step z es n) ≡ Ok st → horizon (newest st) ≤ 4095
-      go (Err f) e = let bad : ◌≡◌ {A = ℕ} 0 1 = cc in absurd (omega arith)
+      go (Err f) e = absurd (cc)
       go (Ok before) e =
           (subst (Fine (λ _. Unit {0})) e
           (judged_gives (λ _. Unit {0}) z (eqb (suc n) (length es)) n before (operation_of (get_or es n blank) (length z)) (λ op read. some_case (built op before) (λ _. Unit {0}) (λ _ _. tt)))).0
@@ -75,7 +75,7 @@ module _ (z : List ℕ) (es : List Entry) where
   unwound : (m n : ℕ) (st : List Formula) → n ≤ m → stack z es n ≡ Ok st → Under n st
   unfolding stack
   unwound m zero [] le e = tt
-  unwound m zero (φ ∷ st) le e = let bad : ◌≡◌ {A = ℕ} 0 1 = cc in absurd (omega arith)
+  unwound m zero (φ ∷ st) le e = absurd (cc)
   unwound zero (suc n) st le e = absurd (omega arith)
   unwound (suc m) (suc n) st le e =
       let l = last_entry n st e in

@@ -1,60 +1,74 @@
 -- What the walk knows after some entries, and what one more adds. Assumes nothing.
-use Rattle.std.proofs.Common.{◌≡◌, ℕ, suc, ◌+◌, ◌-◌, ◌<◌, ◌≤◌, Bool, true, false, cond, not, ◌&&◌, eqb, leb, ◌≢◌, List, [], ◌∷◌, length, get_or, set, IfSome, Some, None, Ok, Err, Option, Result, sym, refl, ap, ◌∙◌, subst, add-one, arith, length-set, get_or-set_other, get_or-set_same, below_more}
+use Rattle.std.proofs.Common.{◌≡◌, ℕ, suc, ◌+◌, ◌-◌, ◌<◌, ◌≤◌, Bool, true, false, cond, not, ◌&&◌, eqb, leb, ◌≢◌, List, [], ◌∷◌, ◌++◌, map, take, length, get_or, set, IfSome, Some, None, Ok, Err, Option, Result, sym, refl, ap, ap₂, ◌∙◌, subst, add-one, arith, get_or-set_other, get_or-set_same, below_more}
+use Rattle.std.proofs.lemmas.List.{take_more, take_more_set, map_push}
 use native.Mathlib.Decide.{le_ind}
 use Rattle.std.proofs.lemmas.Bool.{leb-true}
 use Rattle.entries.specs.Decode.{operation_of}
 use Rattle.formulas.specs.Formula.{Formula, head_test, zone_test, complement, either, both, window, horizon}
 use Rattle.rules.specs.Spelling.{entries}
 use Rattle.rules.specs.Assemble.{blank, built, outside, alone, newest, settled, inside, judged, step, on, stack}
-use Rattle.rules.specs.Spans.{Stacked, Spanned, span, no_span, spanned, left, formula_at}
+use Rattle.rules.specs.Lines.{listed}
+use Rattle.rules.specs.Spans.{Stacked, Spanned, span, no_line, spanned, left, formula_at}
 use Rattle.entries.specs.declared.entry.Entry.{Entry}
 use Rattle.entries.specs.Operations.{OperationModel, HeadTest, ZoneTest, Not, Either, Both, Window}
 use Rattle.rules.specs.declared.fault.RuleFault.{RuleFault}
 use Rattle.rules.specs.declared.fault.RuleFault.TheVariants.{TooManyFormulas, HorizonTooFar}
+use Rattle.rules.specs.declared.line.Line.{Line}
+use Rattle.rules.specs.declared.lines.Lines.{Lines}
 use Rattle.rules.specs.declared.span.Span.{Span}
 use Rattle.rules.proofs.Stacks.{some_entries}
 
-pub record Walked (z : List ℕ) (es : List Entry) (t : List Span) (n : ℕ) : Type 0 where
-  pub long : length t ≡ 24
+pub record Walked (z : List ℕ) (es : List Entry) (l : Lines) : Type 0 where
+  pub copied : listed l ≡ take l.count es
   pub formulas : List Formula
-  pub after : stack z es n ≡ Ok formulas
-  pub stacked : Stacked t n formulas
-  pub told : Spanned z es t n
+  pub after : stack z es l.count ≡ Ok formulas
+  pub stacked : Stacked l.rows l.count formulas
+  pub told : Spanned z es l.rows l.count
 
-pub begins : (z : List ℕ) (es : List Entry) (t : List Span) → length t ≡ 24 → Walked z es t 0
+pub begins : (z : List ℕ) (es : List Entry) (l : Lines) → l.count ≡ 0 → Walked z es l
 unfolding stack
-begins z es t long = record { long = long; formulas = []; after = refl; stacked = refl; told = λ k h. absurd (omega arith) }
+begins z es l none =
+    let rows = l.rows in
+    record {
+      copied = ap (λ n. map (λ (x : Line). x.entry) (take n rows)) none ∙ ap (λ n. take n es) (sym none);
+      formulas = [];
+      after = ap (stack z es) none;
+      stacked = none;
+      told = λ k h. absurd (omega arith);
+    }
 
 -- a write behind the entries read so far
-frame : (t : List Span) (n i : ℕ) (s : Span) (st : List Formula) → n ≤ i → Stacked t n st → Stacked (set t i s) n st
-frame t n i s [] le h = h
-frame t n i s (φ ∷ st) le h =
+frame : (t : List Line) (n i : ℕ) (x : Line) (st : List Formula) → n ≤ i → Stacked t n st → Stacked (set t i x) n st
+frame t n i x [] le h = h
+frame t n i x (φ ∷ st) le h =
     let ne : n - 1 ≢ i = omega (arith, some_entries φ, h.0) in
-    (h.0, h.1, get_or-set_other t i (n - 1) s no_span ne ∙ h.2, frame t (n - entries φ) i s st (omega arith) h.3)
+    (h.0, h.1, ap (λ y. y.span) (get_or-set_other t i (n - 1) x no_line ne) ∙ h.2, frame t (n - entries φ) i x st (omega arith) h.3)
 
--- a formula φ over the entries from m to n
-put : (t : List Span) (n m : ℕ) (φ : Formula) (st : List Formula) → m + entries φ ≡ n + 1 → n < length t → horizon φ ≤ 4095 → Stacked t m st → Stacked (set t n (span φ)) (n + 1) (φ ∷ st)
-put t n m φ st e room near h =
-    let here : n + 1 - 1 ≡ n = omega arith in
-    let there : n + 1 - entries φ ≡ m = omega arith in
-    (omega arith, near, ap (λ k. get_or (set t n (span φ)) k no_span) here ∙ get_or-set_same t n (span φ) no_span room, subst (λ k. Stacked (set t n (span φ)) k st) (sym there) (frame t m n (span φ) st (omega (arith, some_entries φ)) h))
+module _ (t : List Line) (n : ℕ) (x : Line) (room : n < length t) where
+  -- a formula φ over the entries from m to n
+  put : (m : ℕ) (φ : Formula) (st : List Formula) → m + entries φ ≡ n + 1 → horizon φ ≤ 4095 → x.span ≡ span φ → Stacked t m st → Stacked (set t n x) (n + 1) (φ ∷ st)
+  put m φ st e near same h =
+      let here : n + 1 - 1 ≡ n = omega arith in
+      let there : n + 1 - entries φ ≡ m = omega arith in
+      let last = ap (λ k. (get_or (set t n x) k no_line).span) here ∙ ap (λ y. y.span) (get_or-set_same t n x no_line room) ∙ same in
+      (omega arith, near, last, subst (λ k. Stacked (set t n x) k st) (sym there) (frame t m n x st (omega (arith, some_entries φ)) h))
 
-abbrev Next : List Span → ℕ → List Formula → Type 0
-Next t n st = horizon (newest st) ≤ 4095 → Stacked (set t n (span (newest st))) (n + 1) st
+  abbrev pub Next : List Formula → Type 0
+  Next st = horizon (newest st) ≤ 4095 → x.span ≡ span (newest st) → Stacked (set t n x) (n + 1) st
 
-built_next : (t : List Span) (n : ℕ) → n < length t → (op : OperationModel) (st : List Formula) → Stacked t n st → IfSome (built op st) (Next t n)
-built_next t n room (HeadTest j s l) st h = λ near. put t n n (head_test j s l) st (omega arith) room near h
-built_next t n room (ZoneTest k s l) st h = λ near. put t n n (zone_test k s l) st (omega arith) room near h
-built_next t n room Not [] h = tt
-built_next t n room Not (φ ∷ st) h = λ near. put t n (n - entries φ) (complement φ) st (omega (arith, h.0)) room near h.3
-built_next t n room Either [] h = tt
-built_next t n room Either (ψ ∷ []) h = tt
-built_next t n room Either (ψ ∷ (φ ∷ st)) h = λ near. put t n (n - entries ψ - entries φ) (either φ ψ) st (omega (arith, h.0, h.3.0)) room near h.3.3
-built_next t n room Both [] h = tt
-built_next t n room Both (ψ ∷ []) h = tt
-built_next t n room Both (ψ ∷ (φ ∷ st)) h = λ near. put t n (n - entries ψ - entries φ) (both φ ψ) st (omega (arith, h.0, h.3.0)) room near h.3.3
-built_next t n room (Window a b p) [] h = tt
-built_next t n room (Window a b p) (φ ∷ st) h = λ near. put t n (n - entries φ) (window a b p φ) st (omega (arith, h.0)) room near h.3
+  pub built_next : (op : OperationModel) (st : List Formula) → Stacked t n st → IfSome (built op st) Next
+  built_next (HeadTest j s l) st h = λ near same. put n (head_test j s l) st (omega arith) near same h
+  built_next (ZoneTest k s l) st h = λ near same. put n (zone_test k s l) st (omega arith) near same h
+  built_next Not [] h = tt
+  built_next Not (φ ∷ st) h = λ near same. put (n - entries φ) (complement φ) st (omega (arith, h.0)) near same h.3
+  built_next Either [] h = tt
+  built_next Either (ψ ∷ []) h = tt
+  built_next Either (ψ ∷ (φ ∷ st)) h = λ near same. put (n - entries ψ - entries φ) (either φ ψ) st (omega (arith, h.0, h.3.0)) near same h.3.3
+  built_next Both [] h = tt
+  built_next Both (ψ ∷ []) h = tt
+  built_next Both (ψ ∷ (φ ∷ st)) h = λ near same. put (n - entries ψ - entries φ) (both φ ψ) st (omega (arith, h.0, h.3.0)) near same h.3.3
+  built_next (Window a b p) [] h = tt
+  built_next (Window a b p) (φ ∷ st) h = λ near same. put (n - entries φ) (window a b p φ) st (omega (arith, h.0)) near same h.3
 
 -- what the tests of one entry let through
 abbrev pub Fine : (List Formula → Type 0) → Result (List Formula) RuleFault → Type 0
@@ -79,31 +93,63 @@ judged_fine : (P : List Formula → Type 0) (z : List ℕ) (last : Bool) (n : �
 judged_fine P z last n st None h = tt
 judged_fine P z last n st (Some op) h = inside_fine P n (outside z op) _ (settled_fine P last n (built op st) (h op))
 
-module _ (z : List ℕ) (es : List Entry) (t : List Span) (n : ℕ) (w : Walked z es t n) where
+-- what a good entry leaves
+record Grown (z : List ℕ) (es : List Entry) (t : List Line) (n : ℕ) (x : Line) : Type 0 where
+  formulas : List Formula
+  after : stack z es (suc n) ≡ Ok formulas
+  near : horizon (newest formulas) ≤ 4095
+  same : x.span ≡ span (newest formulas)
+  stacked : Stacked (set t n x) (n + 1) formulas
+
+module _ (z : List ℕ) (es : List Entry) (l : Lines) (w : Walked z es l) where
+  abbrev n : ℕ
+  n = l.count
+
   after_step : stack z es (suc n) ≡ step z es n w.formulas
   unfolding stack
   after_step = ap (λ r. on r (step z es n)) w.after
 
-  -- a good entry
-  pub more : (s : Span) → n < length t → Ok s ≡ spanned (step z es n w.formulas) → Walked z es (set t n s) (n + 1)
-  unfolding formula_at
-  more s room e = go (step z es n w.formulas) refl (judged_fine (Next t n) z (eqb (suc n) (length es)) n w.formulas (operation_of (get_or es n blank) (length z)) (λ op. built_next t n room op w.formulas w.stacked)) e
+  grows : (x : Line) → n < length l.rows → Ok x.span ≡ spanned (step z es n w.formulas) → Grown z es l.rows n x
+  grows x room e =
+      go (step z es n w.formulas) refl
+      (judged_fine (Next l.rows n x room) z (eqb (suc n) (length es)) n w.formulas (operation_of (get_or es n blank) (length z)) (λ op. built_next l.rows n x room op w.formulas w.stacked)) e
     where
-      go : (r : Result (List Formula) RuleFault) → step z es n w.formulas ≡ r → Fine (Next t n) r → Ok s ≡ spanned r → Walked z es (set t n s) (n + 1)
-      go (Err f) is fine same = let bad : ◌≡◌ {A = ℕ} 0 1 = cc in absurd (omega arith)
-      go (Ok st) is fine same =
-          let e : s ≡ span (newest st) = cc in
-          let now : stack z es (suc n) ≡ Ok st = after_step ∙ is in
-          record {
-            long = length-set t n s ∙ w.long;
-            formulas = st;
-            after = subst (λ k. stack z es k ≡ Ok st) (sym (add-one n)) now;
-            stacked = subst (λ x. Stacked (set t n x) (n + 1) st) (sym e) (fine.1 fine.0);
-            told =
-                below_more _ _
-                (λ k h. let ne : k ≢ n = omega arith in get_or-set_other t n k s no_span ne ∙ w.told k h)
-                (get_or-set_same t n s no_span room ∙ e ∙ ap (λ r. span (newest (left r))) (sym now));
-          }
+      go : (r : Result (List Formula) RuleFault) → step z es n w.formulas ≡ r → Fine (Next l.rows n x room) r → Ok x.span ≡ spanned r → Grown z es l.rows n x
+      go (Err f) is fine same = absurd (cc)
+      go (Ok st) is fine same = let e : x.span ≡ span (newest st) = cc in record { formulas = st; after = after_step ∙ is; near = fine.0; same = e; stacked = fine.1 fine.0 e }
+
+  -- a good entry
+  pub more : (x : Line) (l' : Lines) → n < length es → x.entry ≡ get_or es n blank → Ok x.span ≡ spanned (step z es n w.formulas) → l'.rows ≡ set l.rows n x → l'.count ≡ n + 1 → Walked z es l'
+  unfolding formula_at
+  more x l' some read e rows count =
+      let room : n < length l.rows = omega (arith, l'.few, l.room) in
+      let g = grows x room e in
+      record {
+        copied =
+            ap₂ (λ k t. map (λ (y : Line). y.entry) (take k t)) count rows
+            ∙ ap (map (λ (y : Line). y.entry)) (take_more_set l.rows n x room)
+            ∙ map_push (λ (y : Line). y.entry) (take n l.rows) x
+            ∙ ap₂ (λ (ys : List Entry) (y : Entry). ys ++ y ∷ []) w.copied read
+            ∙ sym (take_more es n blank some)
+            ∙ ap (λ k. take k es) (sym count);
+        formulas = g.formulas;
+        after = subst (λ k. stack z es k ≡ Ok g.formulas) (sym (count ∙ add-one n)) g.after;
+        stacked = subst (λ k. Stacked l'.rows k g.formulas) (sym count) (subst (λ t. Stacked t (n + 1) g.formulas) (sym rows) g.stacked);
+        told =
+            subst (λ k. Spanned z es l'.rows k) (sym count)
+            (subst (λ t. Spanned z es t (n + 1)) (sym rows)
+            (below_more _ _
+            (λ k h. let ne : k ≢ n = omega arith in ap (λ y. y.span) (get_or-set_other l.rows n k x no_line ne) ∙ w.told k h)
+            (ap (λ y. y.span) (get_or-set_same l.rows n x no_line room) ∙ g.same ∙ ap (λ r. span (newest (left r))) (sym g.after))));
+      }
+
+  -- its span fits the next line
+  pub fits : (s : Span) → n < 24 → Ok s ≡ spanned (step z es n w.formulas) → (s.size ≤ n + 1) × (s.horizon ≤ 4095)
+  fits s room e = let g = grows (record { entry = blank; span = s }) (omega (arith, l.room)) e in go g.formulas g.near g.same g.stacked
+    where
+      go : (st : List Formula) → horizon (newest st) ≤ 4095 → s ≡ span (newest st) → Stacked (set l.rows n (record { entry = blank; span = s })) (n + 1) st → (s.size ≤ n + 1) × (s.horizon ≤ 4095)
+      go [] near same h = absurd (omega arith)
+      go (φ ∷ st) near same h = (omega (arith, ap (λ y. y.size) same, h.0), omega (arith, ap (λ y. y.horizon) same))
 
   -- a bad one
   pub stops : (f : RuleFault) → Err f ≡ spanned (step z es n w.formulas) → stack z es (suc n) ≡ Err f
@@ -111,7 +157,7 @@ module _ (z : List ℕ) (es : List Entry) (t : List Span) (n : ℕ) (w : Walked 
     where
       go : (r : Result (List Formula) RuleFault) → Err f ≡ spanned r → r ≡ Err f
       go (Err g) same = let e : g ≡ f = cc in ap Err e
-      go (Ok st) same = let bad : ◌≡◌ {A = ℕ} 0 1 = cc in absurd (omega arith)
+      go (Ok st) same = absurd (cc)
 
 -- a fault stays
 pub stays : (z : List ℕ) (es : List Entry) (f : RuleFault) (m k : ℕ) → m ≤ k → stack z es m ≡ Err f → stack z es k ≡ Err f

@@ -1,6 +1,5 @@
 -- The windows at the entries of a list are those of the formula that they leave. Assumes nothing.
 use Rattle.std.proofs.Common.{◌≡◌, ℕ, zero, suc, ◌+◌, ◌-◌, ◌≤◌, true, List, [], ◌∷◌, length, IfSome, Ok, refl, ap, ◌∙◌, subst, arith}
-use Rattle.std.proofs.lemmas.Bool.{both_ways}
 use Rattle.formulas.specs.Formula.{Formula}
 use Rattle.entries.specs.Operations.{OperationModel, HeadTest, ZoneTest, Not, Either, Both, Window}
 use Rattle.entries.specs.declared.entry.Entry.{Entry}
@@ -31,15 +30,15 @@ built-widths (Window a b p) [] = tt
 built-widths (Window a b p) (φ ∷ st) = omega arith
 
 alone-widths : (st : List Formula) → alone st ≡ true → all-widths st ≡ widths (newest st)
-alone-widths [] e = absurd (both_ways _ refl e)
+alone-widths [] e = absurd (cc)
 alone-widths (φ ∷ []) e = omega arith
-alone-widths (φ ∷ (ψ ∷ st)) e = absurd (both_ways _ refl e)
+alone-widths (φ ∷ (ψ ∷ st)) e = absurd (cc)
 
 module _ (z : List ℕ) (es : List Entry) where
   widths_left : (n : ℕ) (st : List Formula) → stack z es n ≡ Ok st → widths_to (formula_at z es) n ≡ all-widths st
   unfolding stack
   widths_left zero [] e = refl
-  widths_left zero (φ ∷ st) e = let bad : ◌≡◌ {A = ℕ} 0 1 = cc in absurd (omega arith)
+  widths_left zero (φ ∷ st) e = absurd (cc)
   widths_left (suc n) st e =
       let l = last_entry z es n st e in
       let more : all-widths st ≡ all-widths l.before + top_width (newest st) = subst (λ o. IfSome o (λ s. all-widths s ≡ all-widths l.before + top_width (newest s))) l.makes (built-widths l.op l.before) in

@@ -10,6 +10,7 @@ use Rattle.entries.specs.Decode.{operation_of}
 use Rattle.entries.specs.Operations.{OperationModel, HeadTest, ZoneTest, Not, Either, Both, Window}
 use Rattle.entries.specs.declared.entry.Entry.{Entry}
 use Rattle.rules.specs.declared.fault.RuleFault.{RuleFault}
+use Rattle.rules.specs.declared.sizes.TheConstants.{ENTRIES, HORIZON, ZONE_HEADS}
 use Rattle.rules.specs.declared.fault.RuleFault.TheVariants.{EntryCount, ZoneHeadCount, OutOfRange, HeadOutsideZone, TooFewFormulas, TooManyFormulas, HorizonTooFar}
 
 abbrev pub blank : Entry
@@ -57,7 +58,7 @@ abbrev pub settled : Bool → ℕ → Option (List Formula) → Result (List For
 settled last n None = Err (TooFewFormulas n)
 settled last n (Some st) =
     cond (last && not (alone st)) (Err (TooManyFormulas n))
-    (cond (nat_le (horizon (newest st)) 4095) (Ok st) (Err (HorizonTooFar n (horizon (newest st)))))
+    (cond (nat_le (horizon (newest st)) HORIZON) (Ok st) (Err (HorizonTooFar n (horizon (newest st)))))
 
 -- ground 3
 abbrev pub inside : {X : Type 0} → ℕ → Option ℕ → Result X RuleFault → Result X RuleFault
@@ -81,12 +82,16 @@ unfoldable pub stack : List ℕ → List Entry → ℕ → Result (List Formula)
 stack zone es zero = Ok []
 stack zone es (suc n) = on (stack zone es n) (step zone es n)
 
+-- at least one, and at most so many
+abbrev pub fair : ℕ → ℕ → Bool
+fair n most = nat_le 1 n && nat_le n most
+
 -- 1 to 24 entries; 1 to 32 heads
 abbrev pub fair_count : ℕ → Bool
-fair_count n = nat_le 1 n && nat_le n 24
+fair_count n = fair n ENTRIES
 
 abbrev pub fair_heads : ℕ → Bool
-fair_heads n = nat_le 1 n && nat_le n 32
+fair_heads n = fair n ZONE_HEADS
 
 -- ground 1, then the entries in order
 unfoldable pub assemble : List ℕ → List Entry → Result Formula RuleFault

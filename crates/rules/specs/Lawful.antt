@@ -12,6 +12,7 @@ Ranged zone (either φ ψ) = Ranged zone φ × Ranged zone ψ
 Ranged zone (both φ ψ) = Ranged zone φ × Ranged zone ψ
 Ranged zone (window a b p φ) = ((a ≤ b) × (b ≤ 1439) × (1 ≤ p) × (p ≤ 1000)) × Ranged zone φ
 
+-- the sizes as numbers, so that the constants of the code are held to them
 pub record Lawful (zone : List ℕ) (φ : Formula) : Type 0 where
   -- the zone has 1 to 32 heads
   pub some_heads : 1 ≤ length zone

@@ -4,6 +4,7 @@ pub mod Lawful
 pub mod Assemble
 pub mod Assembled
 pub mod Spans
+pub mod Lines
 pub mod Needs
 pub mod Totals
 pub mod Standing

@@ -21,12 +21,21 @@ pub data NodeModel : Type 0 where
 
 -- each case of a node, with its values
 abbrev pub model : Node → NodeModel
-model (node.HeadTest h s l) = HeadTest h s l.steps
-model (node.ZoneTest k s l) = ZoneTest k s l.steps
+model (node.HeadTest h t) = HeadTest h t.sense t.limit.value
+model (node.ZoneTest k t) = ZoneTest k t.sense t.limit.value
 model (node.Not j) = Not j
 model (node.Either j k) = Either j k
 model (node.Both j k) = Both j k
 model (node.Window j a b k) = Window j a b k
+
+-- the polls of a window; 0 of what is none
+abbrev pub window_width : NodeModel → ℕ
+window_width (HeadTest h s l) = 0
+window_width (ZoneTest k s l) = 0
+window_width (Not j) = 0
+window_width (Either j k) = 0
+window_width (Both j k) = 0
+window_width (Window j a b k) = width a b
 
 -- the formula that ends at entry i: its last operand ends at the entry before, the one before that where the last begins
 abbrev pub node_of : ℕ → Formula → NodeModel
@@ -48,4 +57,4 @@ node_by i m (operation.Window a b p) = Window (i - 1) a b (rank p (width a b))
 
 -- none past the last entry
 abbrev pub node_at : Rule → ℕ → Option NodeModel
-node_at r i = cond (nat_lt i r.count) (Some (node_of i (part r i))) None
+node_at r i = cond (nat_lt i r.lines.count) (Some (node_of i (part r i))) None

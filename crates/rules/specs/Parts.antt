@@ -30,6 +30,6 @@ pub record Whole (r : Rule) : Type 0 where
   pub spells : Spells (listed r) (formula r)
   pub lawful : Lawful (zone r) (formula r)
   -- the last entry's formula is the rule's
-  pub last : part r (r.count - 1) ≡ formula r
+  pub last : part r (r.lines.count - 1) ≡ formula r
   -- the windows at its entries are those of the formula
-  pub windows : widths_to (part r) r.count ≡ widths (formula r)
+  pub windows : widths_to (part r) r.lines.count ≡ widths (formula r)

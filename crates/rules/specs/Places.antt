@@ -8,10 +8,11 @@ use Rattle.rules.specs.Rules.{zone, formula}
 use Rattle.rules.specs.declared.fault.RuleFault.{RuleFault}
 use Rattle.rules.specs.declared.place.RulePlace.{RulePlace}
 use Rattle.rules.specs.declared.rule.Rule.{Rule}
+use Rattle.rules.specs.declared.sizes.TheConstants.{ENTRIES}
 
 -- a row that claims more entries than it has room for holds none
 abbrev pub held : RulePlace → List Entry
-held p = cond (nat_le p.count 24) (take p.count p.entries) []
+held p = cond (nat_le p.count ENTRIES) (take p.count p.entries) []
 
 -- the starting rule's entry: head 0 at least 0
 abbrev pub start_entry : Entry

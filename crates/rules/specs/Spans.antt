@@ -6,9 +6,11 @@
 use Rattle.std.specs.Prelude.{◌≡◌, ℕ, suc, ◌+◌, ◌-◌, ◌<◌, ◌≤◌, max, Bool, not, ◌&&◌, List, [], ◌∷◌, Some, None, Ok, Err, Option, Result, ◌==◌, slice_index_or}
 use Rattle.formulas.specs.Formula.{Formula, horizon}
 use Rattle.entries.specs.declared.entry.Entry.{Entry}
-use Rattle.rules.specs.Assemble.{newest, stack}
+use Rattle.rules.specs.Assemble.{blank, newest, stack}
 use Rattle.rules.specs.Spelling.{entries}
 use Rattle.rules.specs.declared.fault.RuleFault.{RuleFault}
+use Rattle.rules.specs.declared.line.Line.{Line}
+use Rattle.rules.specs.declared.sizes.TheConstants.{HORIZON}
 use Rattle.rules.specs.declared.span.Span.{Span}
 
 abbrev pub left : Result (List Formula) RuleFault → List Formula
@@ -21,18 +23,21 @@ formula_at zone es k = newest (left (stack zone es (suc k)))
 abbrev pub no_span : Span
 no_span = record { horizon = 0; size = 0 }
 
+abbrev pub no_line : Line
+no_line = record { entry = blank; span = no_span }
+
 abbrev pub span : Formula → Span
 span φ = record { horizon = horizon φ; size = entries φ }
 
 -- t has the span of the formula that ends at each of the first n entries
-abbrev pub Spanned : List ℕ → List Entry → List Span → ℕ → Type 0
-Spanned zone es t n = (k : ℕ) → k < n → slice_index_or t k no_span ≡ span (formula_at zone es k)
+abbrev pub Spanned : List ℕ → List Entry → List Line → ℕ → Type 0
+Spanned zone es t n = (k : ℕ) → k < n → (slice_index_or t k no_line).span ≡ span (formula_at zone es k)
 
 -- The first n entries leave the formulas st, the newest first: a formula ends at the entry before the next one's first,
 -- and t has the span of each at its last entry.
-abbrev pub Stacked : List Span → ℕ → List Formula → Type 0
+abbrev pub Stacked : List Line → ℕ → List Formula → Type 0
 Stacked t n [] = n ≡ 0
-Stacked t n (φ ∷ st) = (entries φ ≤ n) × (horizon φ ≤ 4095) × (slice_index_or t (n - 1) no_span ≡ span φ) × Stacked t (n - entries φ) st
+Stacked t n (φ ∷ st) = (entries φ ≤ n) × (horizon φ ≤ HORIZON) × ((slice_index_or t (n - 1) no_line).span ≡ span φ) × Stacked t (n - entries φ) st
 
 abbrev pub newest_span : Option (List Formula) → Option Span
 newest_span None = None

@@ -1,15 +1,7 @@
--- What the entries of a list add up to: the heads that they read, the widths of their windows. Assumes nothing.
-use Rattle.std.specs.Prelude.{ℕ, ◌+◌, Bool, false, cond, ◌||◌, List, [], ◌∷◌, ◌==◌}
+-- What each entry of a list adds: the heads that it reads, a zone test, the width of its window. Assumes nothing.
+use Rattle.std.specs.Prelude.{ℕ, Bool, false, cond, List, ◌==◌}
 use Rattle.formulas.specs.Formula.{among, width}
 use Rattle.entries.specs.declared.entry.Entry.{Entry}
-
-abbrev pub any : {X : Type 0} → (X → Bool) → List X → Bool
-any p [] = false
-any p (x ∷ xs) = p x || any p xs
-
-abbrev pub sum : {X : Type 0} → (X → ℕ) → List X → ℕ
-sum f [] = 0
-sum f (x ∷ xs) = f x + sum f xs
 
 -- the entry reads head h: a head test of it, or a zone test in a zone that has it
 abbrev pub entry_reads : List ℕ → ℕ → Entry → Bool

@@ -1,82 +1,66 @@
 // A rule from a caller's entries.
-ghost use Rattle.std.specs.Prelude.{◌≡◌, ◌≤◌, true, List, length, take, IfOk, Ok};
+ghost use Rattle.std.specs.Prelude.{◌≡◌, List, length, IfOk, Ok, Err, MatchResult};
 ghost use Rattle.formulas.specs.Formula.{Formula};
 ghost use Rattle.entries.specs.Heads.{heads as heads_of};
-ghost use Rattle.rules.specs.Assemble.{assemble, stack, fair_count, fair_heads};
+ghost use Rattle.rules.specs.Assemble.{assemble, stack, fair};
 ghost use Rattle.rules.specs.Assembled.{Assembled};
+ghost use Rattle.rules.specs.Lines.{listed as lines_listed};
 ghost use Rattle.rules.specs.Rules.{listed, made};
 ghost use Rattle.rules.specs.Spans.{Spanned};
 
+use crate::draft::Draft;
 use crate::fault::RuleFault;
+use crate::lines::Lines;
 use crate::rule::Rule;
 use crate::sizes::{ENTRIES, ZONE_HEADS};
-use crate::span::Span;
-use crate::totals::{any_zone_test, cells, heads_read, test_cells, widths};
-use crate::walk::walk;
+use crate::totals::{cells, test_cells};
 use entries::{Entry, HeadSet};
 
-// The entries in a row of their own.
-fn stored(entries: &[Entry]) -> [Entry; ENTRIES]
-    requires { length entries.now ≤ 24 }
-    ensures { take (length entries.now) result ≡ entries.now }
+// Whether there is at least one, and at most so many.
+fn fair(count: usize, most: usize) -> bool
+    ensures { result ≡ fair count most }
 {
-    let mut row = [Entry::BLANK; ENTRIES];
-    for i in 0..entries.len() {
-        row[i] = entries[i];
-    }
-    row
+    (1..=most).contains(&count)
 }
 
-fn fair_count(count: usize) -> bool
-    ensures { result ≡ fair_count count }
-{
-    1 <= count && count <= ENTRIES
-}
-
-fn fair_heads(count: usize) -> bool
-    ensures { result ≡ fair_heads count }
-{
-    1 <= count && count <= ZONE_HEADS
-}
-
-// The rule of entries that were walked through.
-fn walked(entries: &[Entry], zone: HeadSet, spans: [Span; ENTRIES]) -> Rule
-    requires count { fair_count (length entries.now) ≡ true }
-    requires heads { fair_heads (length (heads_of zone.bits)) ≡ true }
-    requires left { (st : List Formula) × (stack (heads_of zone.bits) entries.now (length entries.now) ≡ Ok st) }
-    requires spanned { Spanned (heads_of zone.bits) entries.now spans (length entries.now) }
-    ensures entries { listed result ≡ entries.now }
-    ensures zone { result.zone ≡ zone }
-{
-    let count = entries.len();
-    let tests_zone = any_zone_test(entries);
-    let tests = test_cells(tests_zone, zone);
-    Rule {
-        entries: stored(entries),
-        count,
-        zone,
-        spans,
-        reads: heads_read(entries, zone),
-        tests_zone,
-        need: cells(count, spans[count - 1].horizon, widths(entries), tests),
+impl<'a> Draft<'a> {
+    // The entries in the zone, or the ground against the number of either.
+    fn new(entries: &'a [Entry], zone: HeadSet) -> Result<Draft<'a>, RuleFault>
+        ensures { MatchResult result
+            (λ d. (d.entries.now ≡ entries.now) × (d.zone ≡ zone))
+            (λ f. assemble (heads_of zone.bits) entries.now ≡ Err f) }
+    {
+        let count = entries.len();
+        if !fair(count, ENTRIES) {
+            return Err(RuleFault::EntryCount { count });
+        }
+        let heads = zone.size();
+        if !fair(heads, ZONE_HEADS) {
+            return Err(RuleFault::ZoneHeadCount { count: heads });
+        }
+        Ok(Draft { entries, zone })
     }
-}
 
-// The rule of the entries in the zone, or the first ground against it.
-fn make(entries: &[Entry], zone: HeadSet) -> Result<Rule, RuleFault>
-    ensures value { made result ≡ assemble (heads_of zone.bits) entries.now }
-    ensures kept { IfOk result (λ rule. (listed rule ≡ entries.now) × (rule.zone ≡ zone)) }
-{
-    let count = entries.len();
-    if !fair_count(count) {
-        return Err(RuleFault::EntryCount { count });
+    // The rule, of the lines that the walk found.
+    fn rule(&self, lines: Lines) -> Rule
+        requires same { lines_listed lines ≡ self.now.entries.now }
+        requires left { (st : List Formula) × (stack (heads_of self.now.zone.bits) self.now.entries.now (length self.now.entries.now) ≡ Ok st) }
+        requires spanned { Spanned (heads_of self.now.zone.bits) self.now.entries.now lines.rows (length self.now.entries.now) }
+        ensures entries { listed result ≡ self.now.entries.now }
+        ensures zone { result.zone ≡ self.now.zone }
+    {
+        let count = self.entries.len();
+        let tests_zone = self.any_zone_test();
+        let tests = test_cells(tests_zone, self.zone);
+        let horizon = lines.rows[count - 1].span.horizon;
+        Rule {
+            lines,
+            zone: self.zone,
+            reads: self.heads_read(),
+            tests_zone,
+            need: cells(count, horizon, self.widths(), tests),
+        }
     }
-    let heads = zone.size();
-    if !fair_heads(heads) {
-        return Err(RuleFault::ZoneHeadCount { count: heads });
-    }
-    let spans = walk(entries, zone)?;
-    Ok(walked(entries, zone, spans))
 }
 
 impl Rule {
@@ -87,6 +71,8 @@ impl Rule {
         ensures kept { IfOk result (λ rule. (listed rule ≡ entries.now) × (rule.zone ≡ zone)) }
         ensures exactly { Assembled (heads_of zone.bits) entries.now }
     {
-        make(entries, zone)
+        let draft = Draft::new(entries, zone)?;
+        let lines = draft.walk()?;
+        Ok(draft.rule(lines))
     }
 }

@@ -44,8 +44,9 @@ impl Fault for RuleFault {
             RuleFault::EntryCount { .. } | RuleFault::ZoneHeadCount { .. } => at_entry(1, 0),
             RuleFault::OutOfRange { entry } => at_entry(2, entry),
             RuleFault::HeadOutsideZone { entry, .. } => at_entry(3, entry),
-            RuleFault::TooFewFormulas { entry } => at_entry(4, entry),
-            RuleFault::TooManyFormulas { entry } => at_entry(4, entry),
+            RuleFault::TooFewFormulas { entry } | RuleFault::TooManyFormulas { entry } => {
+                at_entry(4, entry)
+            }
             RuleFault::HorizonTooFar { entry, .. } => at_entry(5, entry),
         }
     }

@@ -2,7 +2,11 @@
 #![tactic(auto)]
 
 mod assemble;
+mod draft;
 mod fault;
+mod line;
+mod lines;
+mod listing;
 mod node;
 mod nodes;
 mod operands;

@@ -1,5 +1,9 @@
 // An entry of a rule, with the entries of its operands.
-use scales::{Limit, Sense};
+ghost use Rattle.std.specs.Prelude.{◌≡◌, ◌≤◌};
+ghost use Rattle.rules.specs.Nodes.{model, window_width};
+
+use crate::totals::width;
+use scales::Test;
 
 // The operation of an entry, with the entries at which the formulas that it takes end.
 #[derive(Clone, Copy)]
@@ -7,14 +11,12 @@ pub enum Node {
     // The test of one head against a limit.
     HeadTest {
         head: u8,
-        sense: Sense,
-        limit: Limit,
+        test: Test,
     },
     // The K-th highest test over all heads of the zone.
     ZoneTest {
         k: u8,
-        sense: Sense,
-        limit: Limit,
+        test: Test,
     },
     // The complement of one formula.
     Not {
@@ -37,4 +39,17 @@ pub enum Node {
         last: u16,
         rank: u32,
     },
+}
+
+impl Node {
+    // How many polls its window has; 0 where it is none.
+    pub fn width(self) -> u32
+        ensures value { result ≡ window_width (model self) }
+        ensures small { result ≤ 65536 }
+    {
+        match self {
+            Node::Window { first, last, .. } => width(first, last),
+            _ => 0,
+        }
+    }
 }

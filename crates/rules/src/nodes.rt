@@ -1,7 +1,6 @@
 // Reading a rule entry by entry.
 ghost use Rattle.std.specs.Prelude.{◌≡◌, ℕ, ◌<◌, ◌≤◌};
 ghost use Rattle.std.specs.Option.{option_map};
-ghost use Rattle.formulas.specs.Formula.{width as window_width};
 ghost use Rattle.entries.specs.Operations.{model as operation_model};
 ghost use Rattle.entries.specs.Writing.{InRange};
 ghost use Rattle.rules.specs.Nodes.{model, node_by, node_at};
@@ -9,16 +8,9 @@ ghost use Rattle.rules.specs.Parts.{Part};
 
 use crate::node::Node;
 use crate::rule::Rule;
+use crate::totals::width;
 use entries::Operation;
 use runs::rank;
-
-// How many polls a window has.
-fn width(first: u16, last: u16) -> u16
-    requires { last ≤ 1439 }
-    ensures { result ≡ window_width first last }
-{
-    last.saturating_sub(first) + 1
-}
 
 // The operation at an entry, of which the formula before it is spelled by `below` entries.
 fn node_by(op: Operation, at: usize, below: usize) -> Node
@@ -28,8 +20,8 @@ fn node_by(op: Operation, at: usize, below: usize) -> Node
     let right = at.saturating_sub(1);
     let left = right.saturating_sub(below);
     match op {
-        Operation::HeadTest { head, sense, limit } => Node::HeadTest { head, sense, limit },
-        Operation::ZoneTest { k, sense, limit } => Node::ZoneTest { k, sense, limit },
+        Operation::HeadTest { head, test } => Node::HeadTest { head, test },
+        Operation::ZoneTest { k, test } => Node::ZoneTest { k, test },
         Operation::Not => Node::Not { of: right },
         Operation::Either => Node::Either { left, right },
         Operation::Both => Node::Both { left, right },
@@ -37,7 +29,7 @@ fn node_by(op: Operation, at: usize, below: usize) -> Node
             of: right,
             first,
             last,
-            rank: rank(share, width(first, last)),
+            rank: rank(share, width(first, last) as u16),
         },
     }
 }
@@ -46,15 +38,10 @@ impl Rule {
     // The entry at a place, with those of its operands; none past the last.
     pub fn node(&self, at: usize) -> Option<Node>
         ensures value { option_map model result ≡ node_at self.now at }
-        ensures part { at < self.now.count → Part self.now at }
+        ensures part { at < self.now.lines.count → Part self.now at }
     {
-        if at >= self.count {
-            return None;
-        }
-        let Some(op) = self.entries[at].operation(self.zone.size()) else {
-            return None;
-        };
-        let below = if at == 0 { 0 } else { self.spans[at - 1].size };
-        Some(node_by(op, at, below as usize))
+        let op = self.lines.get(at)?.entry.operation(self.zone.size())?;
+        let below = self.lines.before(at).map_or(0, |span| span.size as usize);
+        Some(node_by(op, at, below))
     }
 }

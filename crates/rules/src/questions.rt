@@ -15,7 +15,7 @@ impl Rule {
         ensures value { result ≡ length (listed self.now) }
         ensures whole { Whole self.now }
     {
-        self.count
+        self.lines.count
     }
 
     // Its zone.
@@ -30,17 +30,14 @@ impl Rule {
         ensures value { result ≡ horizon_of (formula self.now) }
         ensures near { result ≤ 4095 }
     {
-        self.spans[self.len() - 1].horizon
+        self.lines.rows[self.len() - 1].span.horizon
     }
 
     // How many polls past its own the formula of an entry looks; none past the last entry.
     pub fn horizon_at(&self, at: usize) -> Option<u32>
         ensures { result ≡ horizon_at self.now at }
     {
-        if at >= self.len() {
-            return None;
-        }
-        Some(self.spans[at].horizon)
+        Some(self.lines.get(at)?.span.horizon)
     }
 
     // The heads that it reads: those of its head tests, and all of its zone if it has a zone test.

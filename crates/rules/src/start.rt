@@ -6,18 +6,12 @@ ghost use Rattle.rules.specs.Places.{means, place_means, Numbered};
 use crate::place::RulePlace;
 use crate::rule::Rule;
 use crate::sizes::ENTRIES;
-use entries::{Entry, HEAD_TEST, HeadSet};
+use entries::{Entry, HeadSet, Kind};
 
 // Head 0 at least 0.
 const START: Entry = Entry {
-    kind: HEAD_TEST,
-    head: 0,
-    k: 0,
-    sense: 0,
-    limit: 0,
-    first: 0,
-    last: 0,
-    share: 0,
+    kind: Kind::HeadTest as u8,
+    ..Entry::BLANK
 };
 
 impl Rule {
@@ -25,10 +19,7 @@ impl Rule {
     pub fn starting() -> Rule
         ensures { means result ≡ (starting_formula, 0 ∷ []) }
     {
-        match Rule::new(&[START], HeadSet::starting()) {
-            Ok(rule) => rule,
-            Err(_) => unreachable(),
-        }
+        Rule::new(&[START], HeadSet::starting()).unwrap()
     }
 }
 
@@ -55,8 +46,8 @@ impl RulePlace {
         ensures numbers { Numbered result rule_number zone_number }
     {
         RulePlace {
-            entries: rule.entries,
-            count: rule.count as u8,
+            entries: rule.lines.entries(),
+            count: rule.len() as u8,
             zone: rule.zone,
             rule_number,
             zone_number,
@@ -67,13 +58,7 @@ impl RulePlace {
     pub fn rule(&self) -> Rule
         ensures { means result ≡ place_means self.now }
     {
-        let count = self.count as usize;
-        if count > ENTRIES {
-            return Rule::starting();
-        }
-        match Rule::new(&self.entries[0..count], self.zone) {
-            Ok(rule) => rule,
-            Err(_) => Rule::starting(),
-        }
+        let entries = self.entries.get(..self.count as usize).unwrap_or(&[]);
+        Rule::new(entries, self.zone).unwrap_or_else(|_| Rule::starting())
     }
 }

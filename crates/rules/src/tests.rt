@@ -2,30 +2,29 @@
 use crate::fault::RuleFault;
 use crate::place::RulePlace;
 use crate::rule::Rule;
-use entries::{Entry, HEAD_TEST, HeadSet, WINDOW};
+use entries::{Entry, HeadSet, Kind};
 
 // The head at least 0.
 fn test(head: u8) -> Entry {
-    let mut entry = Entry::BLANK;
-    entry.kind = HEAD_TEST;
-    entry.head = head;
-    entry
+    Entry {
+        kind: Kind::HeadTest as u8,
+        head,
+        ..Entry::BLANK
+    }
 }
 
 // Half of the polls from 0 to `last` ahead.
 fn window(last: u16) -> Entry {
-    let mut entry = Entry::BLANK;
-    entry.kind = WINDOW;
-    entry.last = last;
-    entry.share = 500;
-    entry
+    Entry {
+        kind: Kind::Window as u8,
+        last,
+        share: 500,
+        ..Entry::BLANK
+    }
 }
 
 fn refusal(entries: &[Entry]) -> Option<RuleFault> {
-    match Rule::new(entries, HeadSet::starting()) {
-        Ok(_) => None,
-        Err(fault) => Some(fault),
-    }
+    Rule::new(entries, HeadSet::starting()).err()
 }
 
 #[test]

@@ -1,79 +1,77 @@
 // What the entries of a list add up to: the heads that they read, the widths of their windows, and the cells needed.
-ghost use Rattle.std.specs.Prelude.{◌≡◌, ℕ, ◌+◌, ◌*◌, ◌<◌, ◌≤◌, cond, length, ◌==◌};
-ghost use Rattle.formulas.specs.Formula.{among};
+ghost use Rattle.std.specs.Prelude.{◌≡◌, ℕ, ◌+◌, ◌*◌, ◌<◌, ◌≤◌, cond, length, sum_by, ◌==◌};
+ghost use Rattle.std.specs.List.{list_any};
+ghost use Rattle.formulas.specs.Formula.{among, width};
 ghost use Rattle.entries.specs.Heads.{head_total, heads};
-ghost use Rattle.rules.specs.Totals.{any, sum, entry_reads, tests_zone, entry_width};
+ghost use Rattle.rules.specs.Totals.{entry_reads, tests_zone, entry_width};
 
-use entries::{Entry, HEAD_TEST, HeadSet, WINDOW, ZONE_TEST};
+use crate::draft::Draft;
+use crate::sizes::{ENTRIES, HORIZON, ZONE_HEADS};
+use entries::{Entry, HeadSet, Kind};
 
 // The head alone; no head where there is no such head.
 fn alone(head: u8) -> HeadSet
     ensures { (h : ℕ) → h < head_total → among h (heads result.bits) ≡ (head == h) }
 {
-    match HeadSet::empty().with(head) {
-        Some(set) => set,
-        None => HeadSet::empty(),
-    }
+    HeadSet::empty().with(head).unwrap_or(HeadSet::empty())
 }
 
 // The heads that one entry reads.
 fn entry_reads(entry: Entry, zone: HeadSet) -> HeadSet
     ensures { (h : ℕ) → h < head_total → among h (heads result.bits) ≡ entry_reads (heads zone.bits) h entry }
 {
-    match entry.kind {
-        HEAD_TEST => alone(entry.head),
-        ZONE_TEST => zone,
+    match Kind::try_from(entry.kind) {
+        Ok(Kind::HeadTest) => alone(entry.head),
+        Ok(Kind::ZoneTest) => zone,
         _ => HeadSet::empty(),
     }
 }
 
-// The heads that the entries read.
-pub(crate) fn heads_read(entries: &[Entry], zone: HeadSet) -> HeadSet
-    ensures { (h : ℕ) → h < head_total → among h (heads result.bits) ≡ any (entry_reads (heads zone.bits) h) entries.now }
-{
-    let mut read = HeadSet::empty();
-    for i in 0..entries.len() {
-        read = read.union(entry_reads(entries[i], zone));
+impl Draft<'_> {
+    // The heads that the entries read.
+    pub(crate) fn heads_read(&self) -> HeadSet
+        ensures { (h : ℕ) → h < head_total → among h (heads result.bits) ≡ list_any (entry_reads (heads self.now.zone.bits) h) self.now.entries.now }
+    {
+        self.entries.iter().fold(HeadSet::empty(), |read, entry| {
+            read.union(entry_reads(*entry, self.zone))
+        })
     }
-    read
+
+    // Whether one of the entries is a zone test.
+    pub(crate) fn any_zone_test(&self) -> bool
+        ensures { result ≡ list_any tests_zone self.now.entries.now }
+    {
+        self.entries
+            .iter()
+            .any(|entry| Kind::try_from(entry.kind) == Ok(Kind::ZoneTest))
+    }
+
+    // How many polls all windows have.
+    pub(crate) fn widths(&self) -> usize
+        ensures { result ≡ sum_by entry_width self.now.entries.now }
+    {
+        self.entries.iter().map(|entry| entry_width(*entry)).sum()
+    }
 }
 
-// Whether one of the entries is a zone test.
-pub(crate) fn any_zone_test(entries: &[Entry]) -> bool
-    ensures { result ≡ any tests_zone entries.now }
+// How many polls a window has.
+pub(crate) fn width(first: u16, last: u16) -> u32
+    ensures value { result ≡ width first last }
+    ensures small { result ≤ 65536 }
 {
-    let mut found = false;
-    for i in 0..entries.len() {
-        if entries[i].kind == ZONE_TEST {
-            found = true;
-        }
-    }
-    found
+    last.saturating_sub(first) as u32 + 1
 }
 
 // How many polls the window of an entry has.
-fn width(entry: Entry) -> usize
+fn entry_width(entry: Entry) -> usize
     ensures value { result ≡ entry_width entry }
     ensures small { result ≤ 65536 }
 {
-    if entry.kind == WINDOW {
-        entry.last.saturating_sub(entry.first) as usize + 1
+    if Kind::try_from(entry.kind) == Ok(Kind::Window) {
+        width(entry.first, entry.last) as usize
     } else {
         0
     }
-}
-
-// How many polls all windows have.
-pub(crate) fn widths(entries: &[Entry]) -> usize
-    requires { length entries.now ≤ 24 }
-    ensures value { result ≡ sum entry_width entries.now }
-    ensures small { result ≤ 65536 * 24 }
-{
-    let mut total = 0;
-    for i in 0..entries.len() {
-        total += width(entries[i]);
-    }
-    total
 }
 
 // The cells for the tests of the zone's heads.
@@ -86,10 +84,10 @@ pub(crate) fn test_cells(zone_test: bool, zone: HeadSet) -> usize
 // The cells for so many entries, with a margin of each for every poll up to the horizon, for the windows and for the
 // tests of a zone.
 pub(crate) fn cells(entries: usize, horizon: u32, windows: usize, tests: usize) -> usize
-    requires entries { entries ≤ 24 }
-    requires horizon { horizon ≤ 4095 }
-    requires windows { windows ≤ 65536 * 24 }
-    requires tests { tests ≤ 32 }
+    requires entries { entries ≤ ENTRIES }
+    requires horizon { horizon ≤ HORIZON }
+    requires windows { windows ≤ 1440 * ENTRIES }
+    requires tests { tests ≤ ZONE_HEADS }
     ensures { result ≡ entries * (horizon + 1) + windows + tests }
 {
     entries * (horizon as usize + 1) + windows + tests

@@ -1,89 +1,95 @@
 -- What putting in and taking out leave, from the place and the shift. Assumes nothing.
-use Rattle.std.proofs.Common.{◌≡◌, ℕ, ◌+◌, ◌-◌, ◌<◌, ◌≤◌, Bool, true, false, List, ◌++◌, map, length, get_or, take, drop, ℤ, pos, sym, refl, ap, ◌∙◌, subst, arith}
+use Rattle.std.proofs.Common.{◌≡◌, ℕ, ◌+◌, ◌-◌, ◌<◌, ◌≤◌, Bool, true, false, cond, not, ◌&&◌, List, ◌++◌, map, length, take, drop, ℤ, Some, None, MatchOption, option_map, slice_get, sym, refl, ap, ◌∙◌, append_assoc, arith}
 use Rattle.std.specs.List.{insert, remove}
-use Rattle.std.proofs.lemmas.List.{length-map, length-append, length-drop, length-take, length-take-le, take_at, drop_at, drop-drop, get_or-take}
+use Rattle.std.proofs.lemmas.List.{length-append, length-drop, length-take, length-take-le, take_at, drop_at}
 use Rattle.std.proofs.lemmas.List.Edits.{length-insert, length-remove}
 use Rattle.std.proofs.lemmas.Bool.{both_ways, lt-ltb, ltb-true}
+use Rattle.std.specs.Bool.{then_some}
+use Rattle.std.specs.Ordering.{is_eq, int_eq}
+use Rattle.std.specs.declared.cmp.Ordering.TheVariants.{Less, Equal, Greater}
+use lib.Signed.{lt_z}
+use Rattle.std.proofs.lemmas.Option.{none-some, same_Some, slice_get-map}
+use Rattle.std.proofs.lemmas.Bool.Decides.{Decides-int_eq}
 use Rattle.runs.specs.Highest.{hit, above}
 use Rattle.runs.specs.Order.{Descending}
-use Rattle.runs.specs.Cells.{wholes, InOrder, PutIn, TakenOut, Replaced}
-use Rattle.runs.proofs.Ordered.{added, taken_yes, taken_no}
-use Rattle.runs.proofs.Margins.{map_inserted, map_removed, whole_read}
+use Rattle.runs.specs.Cells.{wholes, InOrder, PutIn, TakenOut, FoundAt, Absent, Replaced}
+use Rattle.runs.proofs.Ordered.{added, taken_yes, taken_no, copies_none}
+use Rattle.runs.proofs.Margins.{map_inserted, map_removed, found_within}
+
+-- the first n cells give way to a front as long
+pub length_front : {X : Type 0} (front xs : List X) (n : ℕ) → length front ≡ n → n ≤ length xs → length (front ++ drop n xs) ≡ length xs
+length_front front xs n e h = omega (arith, length-append front (drop n xs), length-drop n xs)
+
+not_eq : (s t : Bool) → (not s && not t) ≡ is_eq (cond s Less (cond t Greater Equal))
+not_eq true t = refl
+not_eq false true = refl
+not_eq false false = refl
+
+-- what a look at the place behind those above tells
+module _ {M : Type 0} (whole : M → ℤ) (ms : List M) (m : M) (at : ℕ) (placed : Descending (map whole ms) → at ≡ above (whole m) (map whole ms)) where
+  absent : (slice_get (map whole ms) at ≡ Some (whole m) → ⊥) → Absent whole ms m
+  absent h d = copies_none (whole m) (map whole ms) d (λ s. h (ap (slice_get (map whole ms)) (placed d) ∙ s))
+
+  pub absent_past : slice_get ms at ≡ None → Absent whole ms m
+  absent_past e = absent (λ s. none-some (whole m) (sym (slice_get-map whole ms at ∙ ap (option_map whole) e) ∙ s))
+
+  pub looked_at : (x : M) (same : Bool) → slice_get ms at ≡ Some x → same ≡ (not (lt_z (whole x) (whole m)) && not (lt_z (whole m) (whole x)))
+      → MatchOption (then_some same at) (Absent whole ms m) (FoundAt whole ms m)
+  looked_at x same read told = by same (told ∙ not_eq (lt_z (whole x) (whole m)) (lt_z (whole m) (whole x)))
+    where
+      stands : slice_get (map whole ms) at ≡ Some (whole x)
+      stands = slice_get-map whole ms at ∙ ap (option_map whole) read
+
+      by : (b : Bool) → b ≡ int_eq (whole x) (whole m) → MatchOption (then_some b at) (Absent whole ms m) (FoundAt whole ms m)
+      by true e = record { place = placed; same = stands ∙ ap Some ((Decides-int_eq (whole x) (whole m)).0 (sym e)) }
+      by false e = absent (λ s. both_ways (int_eq (whole x) (whole m)) (sym e) ((Decides-int_eq (whole x) (whole m)).1 (same_Some (whole x) (whole m) (sym stands ∙ s))))
 
 module _ {M : Type 0} (whole : M → ℤ) (xs : List M) (used : ℕ) (m : M) where
-  -- what the search for the place says
-  abbrev pub Placed : ℕ → Type 0
-  Placed at = Descending (wholes whole used xs) → at ≡ above (whole m) (wholes whole used xs)
-
-  -- the same, as a search over `&cells[0..used]` says it
-  pub placed_from : (at : ℕ) → (Descending (wholes whole (used - 0) xs) → at ≡ above (whole m) (wholes whole (used - 0) xs)) → Placed at
-  placed_from at h =
-      let z : used - 0 ≡ used = omega arith in
-      subst (λ n. Descending (wholes whole n xs) → at ≡ above (whole m) (wholes whole n xs)) z h
-
-  pub kept_read : (at : ℕ) (x : M) → at < used → used ≤ length xs → x ≡ get_or xs at x → get_or (wholes whole used xs) at (pos 0) ≡ whole x
-  kept_read at x h l read = whole_read whole (take used xs) at x (omega (arith, length-take-le used xs l)) (read ∙ sym (get_or-take used xs at x h))
-
-  pub put_done : (after : List M) (at : ℕ) → used < length xs → at ≤ used → Placed at → after ≡ insert (take used xs) at m ++ drop (used + 1) xs → PutIn whole used xs after m true
-  put_done after at l h placed e =
-      let front = length-take-le used xs (omega arith) in
-      let long : length (insert (take used xs) at m) ≡ used + 1 = omega (arith, length-insert (take used xs) at m (omega arith)) in
-      let kept : take (used + 1) after ≡ insert (take used xs) at m = ap (take (used + 1)) e ∙ take_at (insert (take used xs) at m) (drop (used + 1) xs) (used + 1) long in
+  pub put_done : (front : List M) (at : ℕ) → used < length xs → at ≤ used → (Descending (wholes whole used xs) → at ≡ above (whole m) (wholes whole used xs)) → front ≡ insert (take used xs) at m
+      → PutIn whole used xs (front ++ drop (used + 1) xs) m true
+  put_done front at l h placed e =
+      let f = take used xs in
+      let long : length front ≡ used + 1 = ap length e ∙ omega (arith, length-take-le used xs, length-insert f at m) in
+      let kept : take (used + 1) (front ++ drop (used + 1) xs) ≡ insert f at m = take_at front (drop (used + 1) xs) (used + 1) long ∙ e in
       record {
         told = sym (lt-ltb used (length xs) l);
-        long = ap length e ∙ length-append (insert (take used xs) at m) (drop (used + 1) xs) ∙ (let r = length-drop (used + 1) xs in omega arith);
-        refused = λ f. absurd (both_ways true f refl);
-        behind = ap (drop (used + 1)) e ∙ drop_at (insert (take used xs) at m) (drop (used + 1) xs) (used + 1) long;
-        keeps = λ _ o. let d = o.falls in added (whole m) (wholes whole used xs) (wholes whole (used + 1) after) d
-            (ap (map whole) kept ∙ map_inserted whole (take used xs) at m ∙ ap (λ i. insert (wholes whole used xs) i (whole m)) (placed d));
+        long = length_front front xs (used + 1) long (omega arith);
+        refused = λ q. absurd (both_ways true q refl);
+        behind = drop_at front (drop (used + 1) xs) (used + 1) long;
+        keeps = λ _ o. added (whole m) (wholes whole used xs) (wholes whole (used + 1) (front ++ drop (used + 1) xs)) o.falls
+            (ap (map whole) kept ∙ map_inserted whole f at m ∙ ap (λ i. insert (wholes whole used xs) i (whole m)) (placed o.falls));
       }
 
-  -- nothing stands behind those above m, or another whole number does
-  pub take_refused : (at : ℕ) → Placed at → (at < used → Descending (wholes whole used xs) → get_or (wholes whole used xs) at (pos 0) ≡ whole m → ⊥) → used ≤ length xs → TakenOut whole used xs xs m false
-  take_refused at placed other l = record {
+  pub take_none : Absent whole (take used xs) m → TakenOut whole used xs xs m false
+  take_none none = record {
     some = omega arith;
     long = refl;
     refused = λ _. refl;
     behind = refl;
-    keeps = λ o. let d = o.falls in taken_no (whole m) (wholes whole used xs) (wholes whole (used - 0) xs) d
-        (λ k s. let a = placed d in other (omega (arith, length-map (take used xs) whole, length-take used xs)) d (ap (λ i. get_or (wholes whole used xs) i (pos 0)) a ∙ s))
-        (ap (λ n. wholes whole n xs) (let z : used - 0 ≡ used = omega arith in z));
+    keeps = λ o. taken_no (whole m) (wholes whole used xs) (wholes whole (used - 0) xs) o.falls (none o.falls) (let z : used - 0 ≡ used = omega arith in ap (λ n. wholes whole n xs) z);
   }
 
-  -- the cells are fewer: no order is there to keep
-  pub take_outside : length xs < used → TakenOut whole used xs xs m false
-  take_outside l = record {
-    some = omega arith;
-    long = refl;
-    refused = λ _. refl;
-    behind = refl;
-    keeps = λ o. absurd (omega (arith, o.within));
-  }
-
-  pub take_done : (after : List M) (at : ℕ) → at < used → used ≤ length xs → Placed at → get_or (wholes whole used xs) at (pos 0) ≡ whole m → after ≡ remove (take used xs) at ++ drop (used - 1) xs → TakenOut whole used xs after m true
-  take_done after at h l placed here e =
-      let front = length-take-le used xs l in
-      let long : length (remove (take used xs) at) ≡ used - 1 = omega (arith, length-remove (take used xs) at (omega arith)) in
-      let kept : take (used - 1) after ≡ remove (take used xs) at = ap (take (used - 1)) e ∙ take_at (remove (take used xs) at) (drop (used - 1) xs) (used - 1) long in
-      let rest : drop (used - 1) after ≡ drop (used - 1) xs = ap (drop (used - 1)) e ∙ drop_at (remove (take used xs) at) (drop (used - 1) xs) (used - 1) long in
+  pub take_done : (front : List M) (at : ℕ) → used ≤ length xs → FoundAt whole (take used xs) m at → front ≡ remove (take used xs) at ++ take 1 (drop at (take used xs))
+      → TakenOut whole used xs (front ++ drop used xs) m true
+  take_done front at h found e =
+      let f = take used xs in
+      let out = take 1 (drop at f) in
+      let few = length-take-le used xs h in
+      let inside = found_within whole f m at found in
+      let less : length (remove f at) ≡ used - 1 = omega (arith, length-remove f at inside) in
+      let long : length front ≡ used = ap length e ∙ omega (arith, length-append (remove f at) out, length-take 1 (drop at f), length-drop at f) in
+      let kept : take (used - 1) (front ++ drop used xs) ≡ remove f at =
+      ap (λ l. take (used - 1) (l ++ drop used xs)) e ∙ ap (take (used - 1)) (append_assoc (remove f at) out (drop used xs)) ∙ take_at (remove f at) (out ++ drop used xs) (used - 1) less in
       record {
         some = omega arith;
-        long = ap length e ∙ length-append (remove (take used xs) at) (drop (used - 1) xs) ∙ (let r = length-drop (used - 1) xs in omega arith);
-        refused = λ f. absurd (both_ways true f refl);
-        behind = dropped (used - 1) used (omega arith) rest;
+        long = length_front front xs used long h;
+        refused = λ q. absurd (both_ways true q refl);
+        behind = drop_at front (drop used xs) used long;
         keeps = λ o.
-            let d = o.falls in
-            let a = placed d in
-            taken_yes (whole m) (wholes whole used xs) (wholes whole (used - 1) after) d
-            (omega (arith, length-map (take used xs) whole))
-            (ap (λ i. get_or (wholes whole used xs) i (pos 0)) (sym a) ∙ here)
-            (ap (map whole) kept ∙ map_removed whole (take used xs) at ∙ ap (remove (wholes whole used xs)) a);
+            let a = found.place o.falls in
+            taken_yes (whole m) (wholes whole used xs) (wholes whole (used - 1) (front ++ drop used xs)) o.falls (ap (slice_get (wholes whole used xs)) (sym a) ∙ found.same)
+            (ap (map whole) kept ∙ map_removed whole f at ∙ ap (remove (wholes whole used xs)) a);
       }
-    where
-      dropped : (n k : ℕ) → n ≤ k → drop n after ≡ drop n xs → drop k after ≡ drop k xs
-      dropped n k le eq =
-          let split : k ≡ n + (k - n) = omega arith in
-          ap (λ i. drop i after) split ∙ sym (drop-drop (k - n) n after) ∙ ap (drop (k - n)) eq ∙ drop-drop (k - n) n xs ∙ ap (λ i. drop i xs) (sym split)
 
 -- a run stays in order
 module _ {M : Type 0} (whole : M → ℤ) (used : ℕ) (before after : List M) where

@@ -3,10 +3,13 @@ use Rattle.std.proofs.Common.{◌≡◌, ℕ, ◌+◌, ◌-◌, ◌<◌, ◌≤�
 use lib.Signed.{lt_z, le_z}
 use Rattle.std.proofs.lemmas.Int.{ints}
 use Rattle.std.proofs.lemmas.Bool.{cases_Bool, cond-true, cond-false, both_ways, leb-true, ltb-true, le-leb, lt-ltb, and_parts, and_from}
-use Rattle.runs.specs.Highest.{hit, tally, at_least, above, Kth, is_kth, first_of, highest, kth}
-use Rattle.runs.specs.Order.{Descending, whole_eq, copies, put_in, take_out}
+use Rattle.std.specs.List.{find}
+use Rattle.std.specs.Ordering.{int_eq}
+use Rattle.std.proofs.lemmas.Bool.Decides.{Decides-int_eq}
+use Rattle.runs.specs.Highest.{hit, tally, at_least, above, Kth, is_kth, highest, kth}
+use Rattle.runs.specs.Order.{Descending, copies, put_in, take_out}
 use Rattle.runs.proofs.Tallies.{tally-append, tally_le_length, kth_unique, kth_descending}
-use Rattle.runs.proofs.Ordered.{whole_eq_refl, whole_eq_true, whole_eq_false, tally_yes, tally_no, tally-put_in, descending_put_in, tally-take_out}
+use Rattle.runs.proofs.Ordered.{eq_self, eq_not, tally_yes, tally_no, tally-put_in, descending_put_in, tally-take_out}
 
 -- the two forms of the definition
 pub kth_from_test : (k : ℕ) (xs : List ℤ) (m : ℤ) → is_kth k xs m ≡ true → Kth k xs m
@@ -21,14 +24,14 @@ test_from_kth k xs m h = and_from (leb k (at_least m xs)) (ltb (above m xs) k) (
 sum : (a b s t : Bool) → a ≡ s → b ≡ t → hit s + hit t ≡ hit a + hit b
 sum a b s t e f = cc
 
-hit_parts : (m x : ℤ) → hit (le_z m x) ≡ hit (lt_z m x) + hit (whole_eq m x)
+hit_parts : (m x : ℤ) → hit (le_z m x) ≡ hit (lt_z m x) + hit (int_eq m x)
 hit_parts m x =
     ⊎_elim
-    (λ e. let l : le_z m x ≡ true = grind (arith, ints) in let o : whole_eq m x ≡ false = whole_eq_false m x (λ q. absurd (omega (arith, ints))) in ap hit l ∙ sum (lt_z m x) (whole_eq m x) true false e o)
+    (λ e. let l : le_z m x ≡ true = grind (arith, ints) in let o : int_eq m x ≡ false = eq_not m x (λ q. absurd (omega (arith, ints))) in ap hit l ∙ sum (lt_z m x) (int_eq m x) true false e o)
     (λ e. ⊎_elim
-    (λ q. let s = whole_eq_true m x q in let l : le_z m x ≡ true = grind (arith, ints) in ap hit l ∙ sum (lt_z m x) (whole_eq m x) false true e q)
-    (λ q. let l : le_z m x ≡ false = ⊎_elim (λ t. absurd (both_ways (whole_eq m x) q (let s : m ≡ x = omega (arith, ints) in ap (whole_eq m) (sym s) ∙ whole_eq_refl m))) (λ f. f) (cases_Bool (le_z m x)) in ap hit l ∙ sum (lt_z m x) (whole_eq m x) false false e q)
-    (cases_Bool (whole_eq m x)))
+    (λ q. let s = (Decides-int_eq m x).0 q in let l : le_z m x ≡ true = grind (arith, ints) in ap hit l ∙ sum (lt_z m x) (int_eq m x) false true e q)
+    (λ q. let l : le_z m x ≡ false = ⊎_elim (λ t. absurd (both_ways (int_eq m x) q (let s : m ≡ x = omega (arith, ints) in ap (int_eq m) (sym s) ∙ eq_self m))) (λ f. f) (cases_Bool (le_z m x)) in ap hit l ∙ sum (lt_z m x) (int_eq m x) false false e q)
+    (cases_Bool (int_eq m x)))
     (cases_Bool (lt_z m x))
 
 pub at_least_is : (m : ℤ) (xs : List ℤ) → at_least m xs ≡ above m xs + copies m xs
@@ -44,12 +47,12 @@ passes_no : (p : ℤ → Bool) (x : ℤ) (xs : List ℤ) (o : Option ℤ) → p 
 passes_no p x xs None e h = tally_no p x xs e ∙ h
 passes_no p x xs (Some m) e h = (h.0, omega (arith, tally_no p x xs e, h.1))
 
-pub first_passes : (p : ℤ → Bool) (xs : List ℤ) → Passes p xs (first_of p xs)
+pub first_passes : (p : ℤ → Bool) (xs : List ℤ) → Passes p xs (find p xs)
 first_passes p [] = refl
 first_passes p (x ∷ xs) =
     ⊎_elim
-    (λ e. let y : Passes p (x ∷ xs) (Some x) = (e, omega (arith, tally_yes p x xs e)) in rw (cond-true (p x) (Some x) (first_of p xs) e) y)
-    (λ e. let y = passes_no p x xs (first_of p xs) e (first_passes p xs) in rw (cond-false (p x) (Some x) (first_of p xs) e) y)
+    (λ e. let y : Passes p (x ∷ xs) (Some x) = (e, omega (arith, tally_yes p x xs e)) in rw (cond-true (p x) (Some x) (find p xs) e) y)
+    (λ e. let y = passes_no p x xs (find p xs) e (first_passes p xs) in rw (cond-false (p x) (Some x) (find p xs) e) y)
     (cases_Bool (p x))
 
 -- a number that stands in the stretch and passes is counted
@@ -70,7 +73,7 @@ found_kth k xs m (Some n) h p = ap Some (kth_unique k xs n m (kth_from_test k xs
 -- `highest` answers the K-th highest, and nothing else
 pub highest_is : (k : ℕ) (xs : List ℤ) (m : ℤ) → Kth k xs m → highest k xs ≡ Some m
 unfolding highest
-highest_is k xs m h = found_kth k xs m (first_of (is_kth k xs) xs) h (first_passes (is_kth k xs) xs)
+highest_is k xs m h = found_kth k xs m (find (is_kth k xs) xs) h (first_passes (is_kth k xs) xs)
 
 some_kth : (k : ℕ) (xs : List ℤ) (m : ℤ) (o : Option ℤ) → Passes (is_kth k xs) xs o → o ≡ Some m → Kth k xs m
 some_kth k xs m None p e = let z : ◌≡◌ {A = ℕ} 0 1 = cc in absurd (omega arith)
@@ -78,7 +81,7 @@ some_kth k xs m (Some n) p e = let s : n ≡ m = cc in rw (← s) (kth_from_test
 
 pub kth_from_highest : (k : ℕ) (xs : List ℤ) (m : ℤ) → highest k xs ≡ Some m → Kth k xs m
 unfolding highest
-kth_from_highest k xs m e = some_kth k xs m (first_of (is_kth k xs) xs) (first_passes (is_kth k xs) xs) e
+kth_from_highest k xs m e = some_kth k xs m (find (is_kth k xs) xs) (first_passes (is_kth k xs) xs) e
 
 -- two stretches in which every test passes as often have the same K-th highest
 abbrev pub Alike : List ℤ → List ℤ → Type 0
@@ -101,18 +104,18 @@ highest_alike k xs ys a =
 -- the same from the numbers of copies alone
 copies_cons : (z x : ℤ) (xs ys : List ℤ) → copies z (x ∷ xs) ≡ copies z ys → 0 < copies x ys → copies z xs ≡ copies z (take_out x ys)
 copies_cons z x xs ys e h =
-    let c = tally-take_out (whole_eq z) x ys in
-    let a : cond (ltb 0 (copies x ys)) (hit (whole_eq z x)) 0 ≡ hit (whole_eq z x) = cond-true (ltb 0 (copies x ys)) (hit (whole_eq z x)) 0 (lt-ltb 0 (copies x ys) h) in
+    let c = tally-take_out (int_eq z) x ys in
+    let a : cond (ltb 0 (copies x ys)) (hit (int_eq z x)) 0 ≡ hit (int_eq z x) = cond-true (ltb 0 (copies x ys)) (hit (int_eq z x)) 0 (lt-ltb 0 (copies x ys) h) in
     omega (arith, c, a, e)
 
 no_copies : (ys : List ℤ) → ((z : ℤ) → 0 ≡ copies z ys) → ys ≡ []
 no_copies [] h = refl
-no_copies (y ∷ ys) h = absurd (omega (arith, h y, tally_yes (whole_eq y) y ys (whole_eq_refl y)))
+no_copies (y ∷ ys) h = absurd (omega (arith, h y, tally_yes (int_eq y) y ys (eq_self y)))
 
 pub alike_from_copies : (xs ys : List ℤ) → ((z : ℤ) → copies z xs ≡ copies z ys) → Alike xs ys
 alike_from_copies [] ys h p = ap (tally p) (sym (no_copies ys h))
 alike_from_copies (x ∷ xs) ys h p =
-    let some : 0 < copies x ys = omega (arith, h x, tally_yes (whole_eq x) x xs (whole_eq_refl x)) in
+    let some : 0 < copies x ys = omega (arith, h x, tally_yes (int_eq x) x xs (eq_self x)) in
     let rest = alike_from_copies xs (take_out x ys) (λ z. copies_cons z x xs ys (h z) some) p in
     let c = tally-take_out p x ys in
     let a : cond (ltb 0 (copies x ys)) (hit (p x)) 0 ≡ hit (p x) = cond-true (ltb 0 (copies x ys)) (hit (p x)) 0 (lt-ltb 0 (copies x ys) some) in

@@ -8,7 +8,6 @@ pub mod Picks
 pub mod Powers
 pub mod Ranks
 pub mod Reaching
-pub mod Selects
 pub mod Shifts
 pub mod Splices
 pub mod Tallies

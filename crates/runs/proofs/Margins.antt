@@ -6,6 +6,8 @@ use Rattle.std.proofs.lemmas.List.{length-map, get_or-map, map-append, take-map,
 use Rattle.std.proofs.lemmas.Int.{ints}
 use Rattle.runs.specs.Highest.{above}
 use Rattle.runs.specs.Order.{Descending}
+use Rattle.std.proofs.lemmas.Option.{slice_get_within}
+use Rattle.runs.specs.Cells.{FoundAt}
 use Rattle.runs.proofs.Tallies.{front_yes, front_no, up_above, tally_le_length}
 
 module _ {M : Type 0} (whole : M → ℤ) where
@@ -35,3 +37,6 @@ module _ {M : Type 0} (whole : M → ℤ) where
       map-append whole (take i ms) (drop (suc i) ms)
       ∙ ap (λ l. l ++ map whole (drop (suc i) ms)) (sym (take-map whole i ms))
       ∙ ap (λ l. take i (map whole ms) ++ l) (sym (drop-map whole (suc i) ms))
+
+  pub found_within : (ms : List M) (m : M) (at : ℕ) → FoundAt whole ms m at → at < length ms
+  found_within ms m at found = omega (arith, slice_get_within (map whole ms) at (whole m) found.same, length-map ms whole)

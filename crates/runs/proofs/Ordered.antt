@@ -1,26 +1,22 @@
 -- Laws of putting in and taking out, at stretches of whole numbers. Assumes nothing.
-use Rattle.std.proofs.Common.{◌≡◌, suc, ◌+◌, ◌<◌, Bool, true, false, cond, ltb, List, [], ◌∷◌, length, get_or, ℤ, pos, negsuc, ◌≤ℤ◌, sym, refl, ap, ◌∙◌, ⊎_elim, arith}
+use Rattle.std.proofs.Common.{◌≡◌, suc, ◌+◌, ◌<◌, Bool, true, false, cond, ltb, List, [], ◌∷◌, ℤ, Some, slice_get, ◌≤ℤ◌, sym, refl, ap, ◌∙◌, ⊎_elim, arith}
 use lib.Signed.{lt_z}
 use Rattle.std.proofs.lemmas.Int.{ints}
-use Rattle.std.proofs.lemmas.Bool.{cases_Bool, cond-true, cond-false, both_ways, eqb-true, eq-eqb, lt-ltb, le-ltb}
+use Rattle.std.proofs.lemmas.Bool.{cases_Bool, cond-true, cond-false, lt-ltb, le-ltb}
 use Rattle.std.specs.List.{AllByRecursion, insert, remove}
+use Rattle.std.specs.Ordering.{int_eq}
+use Rattle.std.proofs.lemmas.Option.{none-some, same_Some}
+use Rattle.std.proofs.lemmas.Bool.Decides.{Decides-int_eq}
 use Rattle.std.proofs.ByRecursion.{All-weaker}
 use Rattle.runs.specs.Highest.{hit, tally, above}
-use Rattle.runs.specs.Order.{Descending, whole_eq, copies, put_in, take_out, Added, Taken}
+use Rattle.runs.specs.Order.{Descending, copies, put_in, take_out, Added, Taken}
 use Rattle.runs.proofs.Tallies.{tally_none, up_above}
 
-pub whole_eq_refl : (a : ℤ) → whole_eq a a ≡ true
-whole_eq_refl (pos a) = eq-eqb a a refl
-whole_eq_refl (negsuc a) = eq-eqb a a refl
+pub eq_self : (a : ℤ) → int_eq a a ≡ true
+eq_self a = (Decides-int_eq a a).1 refl
 
-pub whole_eq_true : (a b : ℤ) → whole_eq a b ≡ true → a ≡ b
-whole_eq_true (pos a) (pos b) e = ap pos (eqb-true a b e)
-whole_eq_true (pos a) (negsuc b) e = absurd (both_ways false refl e)
-whole_eq_true (negsuc a) (pos b) e = absurd (both_ways false refl e)
-whole_eq_true (negsuc a) (negsuc b) e = ap negsuc (eqb-true a b e)
-
-pub whole_eq_false : (a b : ℤ) → (a ≡ b → ⊥) → whole_eq a b ≡ false
-whole_eq_false a b h = ⊎_elim (λ e. absurd (h (whole_eq_true a b e))) (λ e. e) (cases_Bool (whole_eq a b))
+pub eq_not : (a b : ℤ) → (a ≡ b → ⊥) → int_eq a b ≡ false
+eq_not a b h = ⊎_elim (λ e. absurd (h ((Decides-int_eq a b).0 e))) (λ e. e) (cases_Bool (int_eq a b))
 
 pub tally_yes : (p : ℤ → Bool) (x : ℤ) (xs : List ℤ) → p x ≡ true → tally p (x ∷ xs) ≡ suc (tally p xs)
 tally_yes p x xs e = rw e (omega arith)
@@ -73,15 +69,15 @@ tally-take_out p z [] = refl
 tally-take_out p z (x ∷ xs) =
     ⊎_elim
     (λ e.
-    let some : ltb 0 (copies z (x ∷ xs)) ≡ true = lt-ltb 0 (copies z (x ∷ xs)) (omega (arith, tally_yes (whole_eq z) x xs e)) in
-    let out : take_out z (x ∷ xs) ≡ xs = cond-true (whole_eq z x) xs (x ∷ take_out z xs) e in
+    let some : ltb 0 (copies z (x ∷ xs)) ≡ true = lt-ltb 0 (copies z (x ∷ xs)) (omega (arith, tally_yes (int_eq z) x xs e)) in
+    let out : take_out z (x ∷ xs) ≡ xs = cond-true (int_eq z x) xs (x ∷ take_out z xs) e in
     let first = cond-true (ltb 0 (copies z (x ∷ xs))) (hit (p z)) 0 some in
-    ap (λ n. hit (p n) + tally p xs) (sym (whole_eq_true z x e)) ∙ ap (λ n. n + tally p xs) (sym first) ∙ ap (λ l. cond (ltb 0 (copies z (x ∷ xs))) (hit (p z)) 0 + tally p l) (sym out))
+    ap (λ n. hit (p n) + tally p xs) (sym ((Decides-int_eq z x).0 e)) ∙ ap (λ n. n + tally p xs) (sym first) ∙ ap (λ l. cond (ltb 0 (copies z (x ∷ xs))) (hit (p z)) 0 + tally p l) (sym out))
     (λ e.
-    let out : take_out z (x ∷ xs) ≡ x ∷ take_out z xs = cond-false (whole_eq z x) xs (x ∷ take_out z xs) e in
-    let same : cond (ltb 0 (copies z (x ∷ xs))) (hit (p z)) 0 ≡ cond (ltb 0 (copies z xs)) (hit (p z)) 0 = ap (λ n. cond (ltb 0 n) (hit (p z)) 0) (tally_no (whole_eq z) x xs e) in
+    let out : take_out z (x ∷ xs) ≡ x ∷ take_out z xs = cond-false (int_eq z x) xs (x ∷ take_out z xs) e in
+    let same : cond (ltb 0 (copies z (x ∷ xs))) (hit (p z)) 0 ≡ cond (ltb 0 (copies z xs)) (hit (p z)) 0 = ap (λ n. cond (ltb 0 n) (hit (p z)) 0) (tally_no (int_eq z) x xs e) in
     omega (arith, tally-take_out p z xs, same, ap (tally p) out))
-    (cases_Bool (whole_eq z x))
+    (cases_Bool (int_eq z x))
 
 all-take_out : (P : ℤ → Type 0) (z : ℤ) (xs : List ℤ) → AllByRecursion P xs → AllByRecursion P (take_out z xs)
 all-take_out P z [] a = tt
@@ -89,7 +85,7 @@ all-take_out P z (x ∷ xs) a =
     ⊎_elim
     (λ e. rw e a.1)
     (λ e. rw e (a.0, all-take_out P z xs a.1))
-    (cases_Bool (whole_eq z x))
+    (cases_Bool (int_eq z x))
 
 pub descending_take_out : (z : ℤ) (xs : List ℤ) → Descending xs → Descending (take_out z xs)
 descending_take_out z [] d = tt
@@ -97,61 +93,61 @@ descending_take_out z (x ∷ xs) d =
     ⊎_elim
     (λ e. rw e d.1)
     (λ e. rw e (all-take_out (λ y. y ≤ℤ x) z xs d.0, descending_take_out z xs d.1))
-    (cases_Bool (whole_eq z x))
+    (cases_Bool (int_eq z x))
 
 -- where there is none, nothing is taken
 pub take_out_none : (z : ℤ) (xs : List ℤ) → copies z xs ≡ 0 → take_out z xs ≡ xs
 take_out_none z [] n = refl
 take_out_none z (x ∷ xs) n =
     ⊎_elim
-    (λ e. absurd (omega (arith, tally_yes (whole_eq z) x xs e)))
-    (λ e. cond-false (whole_eq z x) xs (x ∷ take_out z xs) e ∙ ap (λ l. x ∷ l) (take_out_none z xs (omega (arith, tally_no (whole_eq z) x xs e))))
-    (cases_Bool (whole_eq z x))
+    (λ e. absurd (omega (arith, tally_yes (int_eq z) x xs e)))
+    (λ e. cond-false (int_eq z x) xs (x ∷ take_out z xs) e ∙ ap (λ l. x ∷ l) (take_out_none z xs (omega (arith, tally_no (int_eq z) x xs e))))
+    (cases_Bool (int_eq z x))
 
 -- in a descending stretch the number stands behind those above it, or nowhere
-pub take_out_is : (z : ℤ) (xs : List ℤ) → Descending xs → above z xs < length xs → get_or xs (above z xs) (pos 0) ≡ z → (take_out z xs ≡ remove xs (above z xs)) × (0 < copies z xs)
-take_out_is z [] d l s = absurd (omega arith)
-take_out_is z (x ∷ xs) d l s =
+pub take_out_is : (z : ℤ) (xs : List ℤ) → Descending xs → slice_get xs (above z xs) ≡ Some z → (take_out z xs ≡ remove xs (above z xs)) × (0 < copies z xs)
+take_out_is z [] d s = absurd (none-some z s)
+take_out_is z (x ∷ xs) d s =
     ⊎_elim
     (λ e.
     let n = tally_yes (lt_z z) x xs e in
-    let deep = take_out_is z xs d.1 (omega arith) (ap (λ i. get_or (x ∷ xs) i (pos 0)) (sym n) ∙ s) in
-    let other : whole_eq z x ≡ false = whole_eq_false z x (λ q. absurd (omega (arith, ints))) in
-    (cond-false (whole_eq z x) xs (x ∷ take_out z xs) other ∙ ap (λ l. x ∷ l) deep.0 ∙ ap (remove (x ∷ xs)) (sym n), omega (arith, deep.1, tally_no (whole_eq z) x xs other)))
+    let deep = take_out_is z xs d.1 (ap (slice_get (x ∷ xs)) (sym n) ∙ s) in
+    let other : int_eq z x ≡ false = eq_not z x (λ q. absurd (omega (arith, ints))) in
+    (cond-false (int_eq z x) xs (x ∷ take_out z xs) other ∙ ap (λ l. x ∷ l) deep.0 ∙ ap (remove (x ∷ xs)) (sym n), omega (arith, deep.1, tally_no (int_eq z) x xs other)))
     (λ e.
     let n = tally_no (lt_z z) x xs e ∙ tally_none (lt_z z) (up_above z) x xs e d.0 in
-    let here : x ≡ z = ap (λ i. get_or (x ∷ xs) i (pos 0)) (sym n) ∙ s in
-    let same : whole_eq z x ≡ true = ap (whole_eq z) here ∙ whole_eq_refl z in
-    (cond-true (whole_eq z x) xs (x ∷ take_out z xs) same ∙ ap (remove (x ∷ xs)) (sym n), omega (arith, tally_yes (whole_eq z) x xs same)))
+    let here = same_Some x z (ap (slice_get (x ∷ xs)) (sym n) ∙ s) in
+    let same : int_eq z x ≡ true = ap (int_eq z) here ∙ eq_self z in
+    (cond-true (int_eq z x) xs (x ∷ take_out z xs) same ∙ ap (remove (x ∷ xs)) (sym n), omega (arith, tally_yes (int_eq z) x xs same)))
     (cases_Bool (lt_z z x))
 
 all_not_copies : (z x : ℤ) (xs : List ℤ) → AllByRecursion (λ y. y ≤ℤ x) xs → lt_z x z ≡ true → copies z xs ≡ 0
 all_not_copies z x [] a l = refl
 all_not_copies z x (y ∷ xs) a l =
-    let other : whole_eq z y ≡ false = whole_eq_false z y (λ q. absurd (omega (arith, ints, a.0))) in
-    tally_no (whole_eq z) y xs other ∙ all_not_copies z x xs a.1 l
+    let other : int_eq z y ≡ false = eq_not z y (λ q. absurd (omega (arith, ints, a.0))) in
+    tally_no (int_eq z) y xs other ∙ all_not_copies z x xs a.1 l
 
 -- where the one behind those above is another, there is none
-pub copies_none : (z : ℤ) (xs : List ℤ) → Descending xs → (above z xs < length xs → get_or xs (above z xs) (pos 0) ≡ z → ⊥) → copies z xs ≡ 0
+pub copies_none : (z : ℤ) (xs : List ℤ) → Descending xs → (slice_get xs (above z xs) ≡ Some z → ⊥) → copies z xs ≡ 0
 copies_none z [] d h = refl
 copies_none z (x ∷ xs) d h =
     ⊎_elim
     (λ e.
     let n = tally_yes (lt_z z) x xs e in
-    let other : whole_eq z x ≡ false = whole_eq_false z x (λ q. absurd (omega (arith, ints))) in
-    tally_no (whole_eq z) x xs other ∙ copies_none z xs d.1 (λ l s. h (omega arith) (ap (λ i. get_or (x ∷ xs) i (pos 0)) n ∙ s)))
+    let other : int_eq z x ≡ false = eq_not z x (λ q. absurd (omega (arith, ints))) in
+    tally_no (int_eq z) x xs other ∙ copies_none z xs d.1 (λ s. h (ap (slice_get (x ∷ xs)) n ∙ s)))
     (λ e.
     let n = tally_no (lt_z z) x xs e ∙ tally_none (lt_z z) (up_above z) x xs e d.0 in
-    let apart : x ≡ z → ⊥ = λ q. h (omega arith) (ap (λ i. get_or (x ∷ xs) i (pos 0)) n ∙ q) in
-    let other : whole_eq z x ≡ false = whole_eq_false z x (λ q. apart (sym q)) in
+    let apart : x ≡ z → ⊥ = λ q. h (ap (slice_get (x ∷ xs)) n ∙ ap Some q) in
+    let other : int_eq z x ≡ false = eq_not z x (λ q. apart (sym q)) in
     let low : lt_z x z ≡ true = grind (arith, ints) in
-    tally_no (whole_eq z) x xs other ∙ all_not_copies z x xs d.0 low)
+    tally_no (int_eq z) x xs other ∙ all_not_copies z x xs d.0 low)
     (cases_Bool (lt_z z x))
 
 -- the one behind those above is the number: it is taken
-pub taken_yes : (z : ℤ) (before after : List ℤ) → Descending before → above z before < length before → get_or before (above z before) (pos 0) ≡ z → after ≡ remove before (above z before) → Taken z true before after
-taken_yes z before after d l s e =
-    let t = take_out_is z before d l s in
+pub taken_yes : (z : ℤ) (before after : List ℤ) → Descending before → slice_get before (above z before) ≡ Some z → after ≡ remove before (above z before) → Taken z true before after
+taken_yes z before after d s e =
+    let t = take_out_is z before d s in
     let is : after ≡ take_out z before = e ∙ sym t.0 in
     let some = lt-ltb 0 (copies z before) t.1 in
     record {
@@ -161,13 +157,11 @@ taken_yes z before after d l s e =
       counts = λ p. tally-take_out p z before ∙ rw (some, is) refl;
     }
 
--- it is another, or there is no further one: nothing is taken
-pub taken_no : (z : ℤ) (before after : List ℤ) → Descending before → (above z before < length before → get_or before (above z before) (pos 0) ≡ z → ⊥) → after ≡ before → Taken z false before after
-taken_no z before after d h e =
-    let none = copies_none z before d h in
-    record {
-      told = sym (le-ltb 0 (copies z before) (omega arith));
-      is = e ∙ sym (take_out_none z before none);
-      ordered = rw e d;
-      counts = λ p. rw e (omega arith);
-    }
+-- there is none: nothing is taken
+pub taken_no : (z : ℤ) (before after : List ℤ) → Descending before → copies z before ≡ 0 → after ≡ before → Taken z false before after
+taken_no z before after d none e = record {
+  told = sym (le-ltb 0 (copies z before) (omega arith));
+  is = e ∙ sym (take_out_none z before none);
+  ordered = rw e d;
+  counts = λ p. rw e (omega arith);
+}

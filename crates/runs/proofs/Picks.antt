@@ -1,37 +1,51 @@
--- The K-th place of a stretch, and its K-th highest. Assumes nothing.
-use Rattle.std.proofs.Common.{◌≡◌, ℕ, zero, suc, ◌-◌, ◌<◌, ◌≤◌, ◌⊎◌, List, [], ◌∷◌, map, length, get_or, take, ℤ, pos, Some, None, sym, refl, ap, ◌∙◌, inl, inr, ⊎_elim, arith}
-use Rattle.std.proofs.lemmas.List.{length-map, get_or-map, get_or-take}
-use Rattle.std.specs.Option.{option_map}
-use Rattle.runs.specs.Highest.{highest}
+-- The K-th place of a stretch that lies highest first is its K-th highest, and the first that passes is the same by margins. Assumes nothing.
+use Rattle.std.proofs.Common.{◌≡◌, ℕ, zero, suc, ◌+◌, ◌-◌, ◌≤◌, Bool, Some, None, Option, List, [], ◌∷◌, map, length, get_or, ℤ, pos, count_by, find, option_map, option_copied, slice_get, sym, refl, ap, ◌∙◌, inl, inr, ⊎_elim, arith}
+use Rattle.std.specs.Borrow.{Bor}
+use Rattle.std.specs.Slice.{IsItemAt}
+use Rattle.std.proofs.lemmas.Bool.{cases_Bool, cases_lt}
+use Rattle.std.proofs.lemmas.List.Sums.{sum_by-cons}
+use Rattle.std.proofs.lemmas.Option.{slice_get-map, slice_get-get_or, slice_get_past}
+use Rattle.runs.specs.Highest.{hit, highest, tally}
 use Rattle.runs.specs.Order.{Descending}
 use Rattle.runs.specs.Cells.{in_place}
+use Rattle.runs.specs.Laws.{KthHighest}
 use Rattle.runs.proofs.Kths.{highest_none, highest_descending}
+use Rattle.runs.proofs.KthLaws.{kth_highest}
 
-module _ {M : Type 0} where
-  pub in_place_out : (k : ℕ) (ms : List M) → (k ≡ 0) ⊎ (length ms < k) → in_place k ms ≡ None
-  in_place_out zero ms h = refl
-  in_place_out (suc k) [] h = refl
-  in_place_out (suc zero) (m ∷ ms) h = absurd (⊎_elim (λ e. omega arith) (λ e. omega arith) h)
-  in_place_out (suc (suc k)) (m ∷ ms) h = in_place_out (suc k) ms (inr (⊎_elim (λ e. omega arith) (λ e. omega arith) h))
+in_place_highest : (k : ℕ) (ws : List ℤ) → Descending ws → in_place k ws ≡ highest k ws
+in_place_highest zero ws d = sym (highest_none zero ws (inl refl))
+in_place_highest (suc k) ws d =
+    ⊎_elim
+    (λ l. slice_get-get_or ws k (pos 0) l ∙ (let e : k ≡ suc k - 1 = omega arith in ap (λ i. Some (get_or ws i (pos 0))) e) ∙ sym (highest_descending (suc k) ws d (omega arith) (omega arith)))
+    (λ l. slice_get_past ws k l ∙ sym (highest_none (suc k) ws (inr (omega arith))))
+    (cases_lt k (length ws))
 
-  pub in_place_at : (k : ℕ) (ms : List M) (d : M) → 0 < k → k ≤ length ms → in_place k ms ≡ Some (get_or ms (k - 1) d)
-  in_place_at zero ms d h l = absurd (omega arith)
-  in_place_at (suc k) [] d h l = absurd (omega arith)
-  in_place_at (suc zero) (m ∷ ms) d h l = refl
-  in_place_at (suc (suc k)) (m ∷ ms) d h l =
-      let e : suc (suc k) - 1 ≡ suc k = omega arith in
-      let f : suc k - 1 ≡ k = omega arith in
-      in_place_at (suc k) ms d (omega arith) (omega arith) ∙ ap (λ i. Some (get_or ms i d)) f ∙ ap (λ i. Some (get_or (m ∷ ms) i d)) (sym e)
+-- what `get` lends
+pub got : {M : Type 0} (ms : List M) (i : ℕ) (r : Option (Bor M)) → IsItemAt ms i r → option_copied r ≡ slice_get ms i
+got ms i None h = sym (slice_get_past ms i h.3)
+got ms i (Some x) h = ap Some h.1 ∙ sym (slice_get-get_or ms i x.now h.3.0)
 
-  -- what was read at the K-th place of the cells stands at that place of the first used
-  pub read_in_place : (xs : List M) (used k i : ℕ) (x : M) → x ≡ get_or xs i x → i ≡ k - 1 → 0 < k → k ≤ used → x ≡ get_or (take used xs) (k - 1) x
-  read_in_place xs used k i x read at lo hi = read ∙ ap (λ n. get_or xs n x) at ∙ sym (get_or-take used xs (k - 1) x (omega arith))
+pub in_place_none : {M : Type 0} (k : ℕ) (ms : List M) → (1 ≤ k → ⊥) → in_place k ms ≡ None
+in_place_none zero ms h = refl
+in_place_none (suc k) ms h = absurd (h (omega arith))
 
-  -- outside there is neither
-  pub pick_out : (whole : M → ℤ) (k : ℕ) (ms : List M) → (k ≡ 0) ⊎ (length ms < k) → option_map whole None ≡ highest k (map whole ms)
-  pick_out whole k ms h = sym (highest_none k (map whole ms) (⊎_elim inl (λ l. inr (omega (arith, length-map ms whole))) h))
+pub in_place_at : {M : Type 0} (k at : ℕ) (ms : List M) → 1 ≤ k → at ≡ k - 1 → slice_get ms at ≡ in_place k ms
+in_place_at zero at ms h e = absurd (omega arith)
+in_place_at (suc k) at ms h e = let f : at ≡ k = omega arith in ap (slice_get ms) f
 
-  -- inside, where they lie highest first, it is the K-th highest
-  pub pick_at : (whole : M → ℤ) (k : ℕ) (ms : List M) (d : M) → 0 < k → k ≤ length ms → Descending (map whole ms) → option_map whole (Some (get_or ms (k - 1) d)) ≡ highest k (map whole ms)
-  pick_at whole k ms d h l down =
-      sym (highest_descending k (map whole ms) down h (omega (arith, length-map ms whole)) ∙ ap Some (get_or-map whole ms (k - 1) d (pos 0) (omega arith)))
+module _ {M : Type 0} (whole : M → ℤ) where
+  in_place-map : (k : ℕ) (ms : List M) → in_place k (map whole ms) ≡ option_map whole (in_place k ms)
+  in_place-map zero ms = refl
+  in_place-map (suc k) ms = slice_get-map whole ms k
+
+  pub picked : (k : ℕ) (ms : List M) (answer : Option M) → answer ≡ in_place k ms → Descending (map whole ms) → KthHighest k (map whole ms) (option_map whole answer)
+  picked k ms answer e d = kth_highest k (map whole ms) _ (ap (option_map whole) e ∙ sym (in_place-map k ms) ∙ in_place_highest k (map whole ms) d)
+
+  -- a test of whole numbers, at margins
+  pub tally-map : (p : ℤ → Bool) (ms : List M) → tally p (map whole ms) ≡ count_by (λ x. p (whole x)) ms
+  tally-map p [] = refl
+  tally-map p (x ∷ ms) = ap (λ n. hit (p (whole x)) + n) (tally-map p ms) ∙ sym (sum_by-cons (λ y. hit (p (whole y))) x ms)
+
+  pub found : (p : ℤ → Bool) (ms : List M) → option_map whole (find (λ x. p (whole x)) ms) ≡ find p (map whole ms)
+  found p [] = refl
+  found p (x ∷ ms) = ⊎_elim (λ e. rw e refl) (λ e. rw e (found p ms)) (cases_Bool (p (whole x)))

@@ -1,66 +1,65 @@
--- A stretch of which some cells move up or down by one. Assumes nothing.
-use Rattle.std.proofs.Common.{◌≡◌, ℕ, suc, ◌+◌, ◌-◌, ◌<◌, ◌≤◌, List, [], ◌∷◌, ◌++◌, length, get_or, take, drop, set, sym, refl, ap, ◌∙◌, append_assoc, arith}
-use lib.Seq.{paste}
+-- Stretches of which some cells move up or down by one. Assumes nothing.
+use Rattle.std.proofs.Common.{◌≡◌, ℕ, suc, ◌+◌, ◌-◌, ◌<◌, ◌≤◌, List, [], ◌∷◌, ◌++◌, length, get_or, take, drop, set, sym, ap, ◌∙◌, append_assoc, add-one, arith}
 use Rattle.std.specs.List.{insert, remove}
-use Rattle.std.proofs.lemmas.List.{append-nil, length-take, length-take-le, length-append, length-drop, take-append-drop, drop_all, take_more, drop_more, take-take, set_at, get_or_append_left, get_or-append_right, get_or-take, get_or-drop, drop-take}
-use Rattle.std.proofs.lemmas.List.Edits.{paste_more}
+use Rattle.std.proofs.lemmas.List.{append-nil, length-take, length-take-le, length-drop, take-append-drop, take_all, drop_all, drop_more, take-take, take_at, drop_at, set_at, drop-take, drop-drop}
+use Rattle.std.proofs.lemmas.List.Edits.{length-remove, remove-append_left}
 
 module _ {X : Type 0} where
-  -- the cells from `at` on, among the first k, have moved up by one; the one at `at` stands twice
-  abbrev pub lifted : List X → ℕ → ℕ → List X
-  lifted xs at k = take (at + 1) xs ++ (drop at (take k xs) ++ drop (k + 1) xs)
+  -- the last of a stretch
+  last_alone : (s : List X) (k : ℕ) (d : X) → suc k ≡ length s → drop k s ≡ get_or s k d ∷ []
+  last_alone s k d e = drop_more s k d (omega arith) ∙ ap (λ l. get_or s k d ∷ l) (drop_all (k + 1) s (omega arith))
 
-  pub lifted_none : (xs : List X) (k : ℕ) → k < length xs → xs ≡ lifted xs k k
-  lifted_none xs k l =
-      let e : drop k (take k xs) ≡ [] = drop_all k (take k xs) (omega (arith, length-take k xs)) in
-      rw e (sym (take-append-drop (k + 1) xs))
+  -- what `xs[at..]` becomes
+  behind : (xs : List X) (at : ℕ) (turn : List X → List X) (s : List X) → s ≡ turn (take (length xs - at) (drop at xs)) → take at xs ++ (s ++ drop (length xs - at) (drop at xs)) ≡ take at xs ++ turn (drop at xs)
+  behind xs at turn s e =
+      let long = length-drop at xs in
+      ap (λ l. take at xs ++ (s ++ l)) (drop_all (length xs - at) (drop at xs) (omega arith))
+      ∙ ap (λ l. take at xs ++ l) (append-nil s ∙ e ∙ ap turn (take_all (length xs - at) (drop at xs) (omega arith)))
 
-  lifted_split : (xs : List X) (at k : ℕ) (d : X) → at < length xs → lifted xs at k ≡ take at xs ++ (get_or xs at d ∷ (drop at (take k xs) ++ drop (k + 1) xs))
-  lifted_split xs at k d l = rw (take_more xs at d l) (append_assoc (take at xs) (get_or xs at d ∷ []) (drop at (take k xs) ++ drop (k + 1) xs))
+  -- the last came to the front of what lies from `at` on, and x over it
+  pub turned_up : (xs : List X) (at : ℕ) (x : X) (s : List X) → at < length xs
+      → s ≡ drop (length (take (length xs - at) (drop at xs)) - 1) (take (length xs - at) (drop at xs)) ++ take (length (take (length xs - at) (drop at xs)) - 1) (take (length xs - at) (drop at xs))
+      → set (take at xs ++ (s ++ drop (length xs - at) (drop at xs))) at x ≡ insert (take (length xs - 1) xs) at x
+  turned_up xs at x s h e =
+      let b = drop at xs in
+      let n = length b - 1 in
+      let many = length-drop at xs in
+      let k : length xs - 1 ≡ at + n = omega arith in
+      ap (λ l. set l at x) (behind xs at (λ l. drop (length l - 1) l ++ take (length l - 1) l) s e)
+      ∙ ap (λ l. set (take at xs ++ (l ++ take n b)) at x) (last_alone b n x (omega arith))
+      ∙ set_at (take at xs) (get_or b n x) (take n b) x at (length-take-le at xs (omega arith))
+      ∙ ap (λ l. take at xs ++ (x ∷ l)) (sym (ap (λ i. drop at (take i xs)) k ∙ drop-take at n xs))
+      ∙ ap (λ l. l ++ (x ∷ drop at (take (length xs - 1) xs))) (sym (take-take at (length xs - 1) xs (omega arith)))
 
-  set_lifted : (xs : List X) (at k : ℕ) (x : X) → at < length xs → set (lifted xs at k) at x ≡ take at xs ++ (x ∷ (drop at (take k xs) ++ drop (k + 1) xs))
-  set_lifted xs at k x l = ap (λ ys. set ys at x) (lifted_split xs at k x l) ∙ set_at (take at xs) (get_or xs at x) (drop at (take k xs) ++ drop (k + 1) xs) x at (length-take-le at xs (omega arith))
+  -- the one at `at` went to the end
+  pub turned_down : (xs : List X) (at : ℕ) (s : List X) → s ≡ drop 1 (take (length xs - at) (drop at xs)) ++ take 1 (take (length xs - at) (drop at xs))
+      → take at xs ++ (s ++ drop (length xs - at) (drop at xs)) ≡ remove xs at ++ take 1 (drop at xs)
+  turned_down xs at s e =
+      behind xs at (λ l. drop 1 l ++ take 1 l) s e
+      ∙ ap (λ l. take at xs ++ (l ++ take 1 (drop at xs))) (drop-drop 1 at xs)
+      ∙ sym (append_assoc (take at xs) (drop (at + 1) xs) (take 1 (drop at xs)))
+      ∙ ap (λ n. (take at xs ++ drop n xs) ++ take 1 (drop at xs)) (add-one at)
 
-  pub lifted_more : (xs : List X) (at j k : ℕ) (x : X) → j ≡ at + 1 → j ≤ k → k < length xs → x ≡ get_or (lifted xs j k) at x → set (lifted xs j k) j x ≡ lifted xs at k
-  lifted_more xs at j k x ej jk l read =
-      let lt : at < length (take (j + 1) xs) = omega (arith, length-take (j + 1) xs) in
-      let front : x ≡ get_or xs at x = read ∙ get_or_append_left (take (j + 1) xs) (drop j (take k xs) ++ drop (k + 1) xs) x at lt ∙ get_or-take (j + 1) xs at x (omega arith) in
-      let inside : at < length (take k xs) = omega (arith, length-take k xs) in
-      let more : drop at (take k xs) ≡ x ∷ drop (at + 1) (take k xs) = drop_more (take k xs) at x inside ∙ ap (λ y. y ∷ drop (at + 1) (take k xs)) (get_or-take k xs at x (omega arith) ∙ sym front) in
-      set_lifted xs j k x (omega arith)
-      ∙ ap (λ n. take n xs ++ (x ∷ (drop n (take k xs) ++ drop (k + 1) xs))) ej
-      ∙ ap (λ ys. take (at + 1) xs ++ (ys ++ drop (k + 1) xs)) (sym more)
+  -- a front without its last cell
+  pub all_but_last : (xs : List X) (n : ℕ) → n < length xs → take (length (take (n + 1) xs) - 1) (take (n + 1) xs) ≡ take n xs
+  all_but_last xs n h =
+      let k : length (take (n + 1) xs) - 1 ≡ n = omega (arith, length-take (n + 1) xs) in
+      ap (λ i. take i (take (n + 1) xs)) k ∙ take-take n (n + 1) xs (omega arith)
 
-  pub lifted_all : (xs : List X) (at k : ℕ) (x : X) → at ≤ k → k < length xs → set (lifted xs at k) at x ≡ insert (take k xs) at x ++ drop (k + 1) xs
-  lifted_all xs at k x h l =
-      set_lifted xs at k x (omega arith)
-      ∙ sym (append_assoc (take at xs) (x ∷ drop at (take k xs)) (drop (k + 1) xs))
-      ∙ ap (λ ys. (ys ++ (x ∷ drop at (take k xs))) ++ drop (k + 1) xs) (sym (take-take at k xs h))
-
-  -- the cells behind `at` have moved down by one, n of them
-  abbrev pub lowered : List X → ℕ → ℕ → List X
-  lowered xs at n = paste xs at (drop (at + 1) xs) n
-
-  pub lowered_none : (xs : List X) (at : ℕ) → xs ≡ lowered xs at 0
-  lowered_none xs at = sym (ap (λ ys. ys ++ drop (at + 0) xs) (append-nil (take at xs)) ∙ ap (λ n. take at xs ++ drop n xs) (omega arith) ∙ take-append-drop at xs)
-
-  pub lowered_more : (xs : List X) (at n : ℕ) (x : X) → at + n + 1 < length xs → x ≡ get_or (lowered xs at n) (at + n + 1) x → set (lowered xs at n) (at + n) x ≡ lowered xs at (n + 1)
-  lowered_more xs at n x l read =
-      let s = drop (at + 1) xs in
-      let front : length (take at xs ++ take n s) ≡ at + n = omega (arith, length-append (take at xs) (take n s), length-take at xs, length-take n s, length-drop (at + 1) xs) in
-      let here : x ≡ get_or s n x =
-      read
-      ∙ get_or-append_right (take at xs ++ take n s) (drop (at + n) xs) (at + n) (at + n + 1) x front (omega arith)
-      ∙ get_or-drop (at + n) xs (at + n + 1 - (at + n)) x
-      ∙ ap (λ i. get_or xs i x) (omega arith)
-      ∙ sym (get_or-drop (at + 1) xs n x) in
-      ap (set (lowered xs at n) (at + n)) here ∙ paste_more xs at s n x (omega arith) (omega (arith, length-drop (at + 1) xs))
-
-  pub lowered_all : (xs : List X) (at n k : ℕ) → k ≡ at + n + 1 → lowered xs at n ≡ remove (take k xs) at ++ drop (k - 1) xs
-  lowered_all xs at n k e =
-      let a : take at (take k xs) ≡ take at xs = take-take at k xs (omega arith) in
-      let up : k ≡ suc at + n = omega arith in
-      let one : suc at ≡ at + 1 = omega arith in
-      let b : drop (suc at) (take k xs) ≡ take n (drop (at + 1) xs) = ap (λ m. drop (suc at) (take m xs)) up ∙ drop-take (suc at) n xs ∙ ap (λ m. take n (drop m xs)) one in
-      let t : at + n ≡ k - 1 = omega arith in
-      ap (λ m. take at xs ++ take n (drop (at + 1) xs) ++ drop m xs) t ∙ rw (a, b) refl
+  -- one out and another in behind it: only what lies between the two moves
+  pub moved_down : (xs : List X) (gone at : ℕ) (x : X) (s : List X) → gone < at → at ≤ length xs → s ≡ remove (take at xs) gone ++ take 1 (drop gone (take at xs))
+      → set (s ++ drop at xs) (at - 1) x ≡ insert (remove xs gone) (at - 1) x
+  moved_down xs gone at x s h l e =
+      let f = take at xs in
+      let b = drop at xs in
+      let g = remove f gone in
+      let y = get_or f gone x in
+      let front = length-take-le at xs l in
+      let long : length g ≡ at - 1 = omega (arith, front, length-remove f gone (omega arith)) in
+      let turned : s ++ b ≡ g ++ (y ∷ b) = ap (λ l. l ++ b) (e ∙ ap (λ l. g ++ take 1 l) (drop_more f gone x (omega arith))) ∙ append_assoc g (y ∷ []) b in
+      let whole : remove xs gone ≡ g ++ b = ap (λ l. remove l gone) (sym (take-append-drop at xs)) ∙ remove-append_left f b gone (omega arith) in
+      ap (λ l. set l (at - 1) x) turned
+      ∙ set_at g y b x (at - 1) long
+      ∙ ap (λ l. l ++ (x ∷ b)) (sym (take_at g b (at - 1) long))
+      ∙ ap (λ l. take (at - 1) (g ++ b) ++ (x ∷ l)) (sym (drop_at g b (at - 1) long))
+      ∙ ap (λ l. insert l (at - 1) x) (sym whole)

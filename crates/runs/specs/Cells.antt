@@ -1,5 +1,5 @@
 -- What putting in and taking out leave in the cells of a run. Assumes nothing.
-use Rattle.std.specs.Prelude.{◌≡◌, ℕ, zero, suc, ◌+◌, ◌-◌, ◌<◌, ◌≤◌, Bool, true, false, List, [], ◌∷◌, map, length, take, drop, ℤ, pos, Some, None, Option, nat_lt, slice_index_or}
+use Rattle.std.specs.Prelude.{◌≡◌, ℕ, zero, suc, ◌+◌, ◌-◌, ◌≤◌, Bool, true, false, List, map, length, take, drop, ℤ, Some, None, Option, nat_lt, slice_get}
 use Rattle.runs.specs.Highest.{hit, above}
 use Rattle.runs.specs.Order.{Descending, Added, Taken, Exchanged, copies}
 
@@ -29,11 +29,13 @@ pub record TakenOut {M : Type 0} (whole : M → ℤ) (used : ℕ) (before after 
   pub keeps : InOrder whole used before → Taken (whole m) found (wholes whole used before) (wholes whole (used - hit found) after)
 
 -- a margin of the whole number of m stands at this place, behind those above it
-pub record FoundAt {M : Type 0} (whole : M → ℤ) (used : ℕ) (cells : List M) (m : M) (at : ℕ) : Type 0 where
-  pub inside : at < used
-  pub within : used ≤ length cells
-  pub place : Descending (wholes whole used cells) → at ≡ above (whole m) (wholes whole used cells)
-  pub same : slice_index_or (wholes whole used cells) at (pos 0) ≡ whole m
+pub record FoundAt {M : Type 0} (whole : M → ℤ) (margins : List M) (m : M) (at : ℕ) : Type 0 where
+  pub place : Descending (map whole margins) → at ≡ above (whole m) (map whole margins)
+  pub same : slice_get (map whole margins) at ≡ Some (whole m)
+
+-- none of the margins, if they lie highest first, has the whole number of m
+abbrev pub Absent : {M : Type 0} → (M → ℤ) → List M → M → Type 0
+Absent whole margins m = Descending (map whole margins) → copies (whole m) (map whole margins) ≡ 0
 
 -- one margin of the whole number of old was to leave the first `used` of the cells, and new to come in; where none was found
 -- nothing changes, and new stays out
@@ -47,6 +49,4 @@ pub record Replaced {M : Type 0} (whole : M → ℤ) (used : ℕ) (before after 
 -- what stands in the K-th place, counted from 1
 abbrev pub in_place : {M : Type 0} → ℕ → List M → Option M
 in_place zero ms = None
-in_place (suc k) [] = None
-in_place (suc zero) (m ∷ ms) = Some m
-in_place (suc (suc k)) (m ∷ ms) = in_place (suc k) ms
+in_place (suc k) ms = slice_get ms k

@@ -1,6 +1,7 @@
 -- Stretches of whole numbers that lie highest first. Assumes nothing.
-use Rattle.std.specs.Prelude.{◌≡◌, ℕ, ◌+◌, Bool, false, cond, List, [], ◌∷◌, ℤ, pos, negsuc, ◌≤ℤ◌, ◌==◌, int_lt, nat_lt}
+use Rattle.std.specs.Prelude.{◌≡◌, ℕ, ◌+◌, Bool, cond, List, [], ◌∷◌, ℤ, ◌≤ℤ◌, int_lt, nat_lt}
 use Rattle.std.specs.List.{AllByRecursion}
+use Rattle.std.specs.Ordering.{int_eq}
 use Rattle.runs.specs.Highest.{tally, hit}
 
 -- highest first
@@ -8,16 +9,9 @@ abbrev pub Descending : List ℤ → Type 0
 Descending [] = Unit {0}
 Descending (x ∷ xs) = AllByRecursion (λ y. y ≤ℤ x) xs × Descending xs
 
--- whether two whole numbers are the same
-abbrev pub whole_eq : ℤ → ℤ → Bool
-whole_eq (pos a) (pos b) = a == b
-whole_eq (pos a) (negsuc b) = false
-whole_eq (negsuc a) (pos b) = false
-whole_eq (negsuc a) (negsuc b) = a == b
-
 -- how often z stands in xs
 abbrev pub copies : ℤ → List ℤ → ℕ
-copies z xs = tally (whole_eq z) xs
+copies z xs = tally (int_eq z) xs
 
 -- z put into xs, before the first that is not above it
 abbrev pub put_in : ℤ → List ℤ → List ℤ
@@ -27,7 +21,7 @@ put_in z (x ∷ xs) = cond (int_lt z x) (x ∷ put_in z xs) (z ∷ x ∷ xs)
 -- xs without one z, if it has one
 abbrev pub take_out : ℤ → List ℤ → List ℤ
 take_out z [] = []
-take_out z (x ∷ xs) = cond (whole_eq z x) xs (x ∷ take_out z xs)
+take_out z (x ∷ xs) = cond (int_eq z x) xs (x ∷ take_out z xs)
 
 -- what a run keeps after z was put in
 pub record Added (z : ℤ) (before after : List ℤ) : Type 0 where

@@ -2,8 +2,17 @@
 use crate::run::OrderedRun;
 use crate::select::pick;
 use crate::share::rank;
-use scales::{Counts, Limit, Obscuration, Scale, Sense, Verdict, VerdictMargin};
-use std::test::Fail;
+use scales::{Counts, Limit, Obscuration, Scale, Sense, Test, Verdict, VerdictMargin};
+
+// The margins of four readings that are to be at least 8.
+fn margins<S: Scale>(scale: &S, [a, b, c, d]: [S::Reading; 4]) -> Option<[S::Margin; 4]> {
+    let test = Test {
+        sense: Sense::AtLeast,
+        limit: Limit::new(8)?,
+    };
+    let margin = |reading| scale.test(reading, test);
+    Some([margin(a)?, margin(b)?, margin(c)?, margin(d)?])
+}
 
 // The third highest of a run of three margins into which the first was put twice, after the highest left for the fourth.
 fn third_of<S: Scale>(scale: &S, margins: [S::Margin; 4]) -> Option<S::Margin> {
@@ -13,50 +22,34 @@ fn third_of<S: Scale>(scale: &S, margins: [S::Margin; 4]) -> Option<S::Margin> {
 
 fn third_in<S: Scale>(
     scale: &S,
-    margins: [S::Margin; 4],
+    [first, second, third, fourth]: [S::Margin; 4],
     cells: &mut [S::Margin],
 ) -> Option<S::Margin> {
     let mut run = OrderedRun::new(cells);
-    for i in 0..3usize {
-        let _ = run.put(scale, margins[i]);
-    }
-    let _ = run.put(scale, margins[0]);
-    let _ = run.take(scale, margins[0]);
-    let _ = run.replace(scale, margins[1], margins[3]);
+    let _ = run.put(scale, first);
+    let _ = run.put(scale, second);
+    let _ = run.put(scale, third);
+    let _ = run.put(scale, first);
+    let _ = run.take(scale, first);
+    let _ = run.replace(scale, second, fourth);
     run.pick(3)
 }
 
-fn tests<S: Scale>(
-    scale: &S,
-    readings: [S::Reading; 4],
-    limit: Limit,
-) -> Result<[S::Margin; 4], u8> {
-    let a = scale.test(readings[0], Sense::AtLeast, limit).ok_or(0u8)?;
-    let b = scale.test(readings[1], Sense::AtLeast, limit).ok_or(1u8)?;
-    let c = scale.test(readings[2], Sense::AtLeast, limit).ok_or(2u8)?;
-    let d = scale.test(readings[3], Sense::AtLeast, limit).ok_or(3u8)?;
-    Ok([a, b, c, d])
-}
-
 #[test]
-fn three_scales(rt: HostRuntime) -> Result<(), Fail> {
-    let limit = Limit::new(8).ok_or(0u8)?;
-    let counts = tests(&Counts, [5, 12, 9, 6], limit)?;
-    assert_eq!(rt; third_of(&Counts, counts).ok_or(1u8)?.value(), -3);
-    assert_eq!(rt; pick(&Counts, &counts, 2).ok_or(2u8)?.value(), 1);
+fn three_scales(rt: HostRuntime) {
+    let counts = margins(&Counts, [5, 12, 9, 6]).expect(&rt, "counts");
+    assert_eq!(rt; third_of(&Counts, counts).map(|m| m.value()), Some(-3));
+    assert_eq!(rt; pick(&Counts, &counts, 2).map(|m| m.value()), Some(1));
     assert!(rt; pick(&Counts, &counts, 5).is_none());
-    let obscuration = tests(&Obscuration, [0.25, 4.0, 1.5, 0.5], limit)?;
-    assert!(rt; third_of(&Obscuration, obscuration).ok_or(3u8)?.value() == 0.21875);
-    let verdicts = tests(&Verdict::over(Counts), [5, 12, 9, 8], limit)?;
+    let obscuration = margins(&Obscuration, [0.25, 4.0, 1.5, 0.5]).expect(&rt, "obscuration");
     assert_eq!(rt;
-        third_of(&Verdict::over(Counts), verdicts).ok_or(4u8)?,
-        VerdictMargin::No
+        third_of(&Obscuration, obscuration).map(|m| m.value()),
+        Some(0.21875)
     );
-    assert_eq!(rt;
-        pick(&Verdict::over(Counts), &verdicts, 3).ok_or(5u8)?,
-        VerdictMargin::Yes
-    );
-    Ok(())
+    let verdict = Verdict::over(Counts);
+    let verdicts = margins(&verdict, [5, 12, 9, 8]).expect(&rt, "verdicts");
+    assert_eq!(rt; third_of(&verdict, verdicts), Some(VerdictMargin::No));
+    assert_eq!(rt; pick(&verdict, &verdicts, 3), Some(VerdictMargin::Yes));
 }
 
 #[test]

@@ -79,7 +79,7 @@ sub_exact (fin u m e) (fin i n d) s t a b v w h =
     let z = sum_exact (m * up e * down d) (n * up d * down e) (down e * down d) a b (mul-pos (down_pos e) (down_pos d)) (omega (arith, ap (λ (k : ℕ). k * down d) v.1)) (omega (arith, ap (λ (k : ℕ). k * down e) w.1)) h u (not i) in
     (z.0, z.1 ∙ ap (λ (c : Bool). signed c a +ℤ signed (not i) b) v.0 ∙ ap (λ (k : ℤ). signed s a +ℤ k) (ap (λ (c : Bool). signed (not c) b) w.0 ∙ signed_not t b))
 
-pub sub_grid : (x y : Float) → T (on_grid 1048576 x) → T (on_grid 1048576 y) → Exact 2097152 (sub binary32 x y) (grid_whole x -ℤ grid_whole y)
+sub_grid : (x y : Float) → T (on_grid 1048576 x) → T (on_grid 1048576 y) → Exact 2097152 (sub binary32 x y) (grid_whole x -ℤ grid_whole y)
 sub_grid x y h k =
     let v = grid_value 1048576 x h in
     let w = grid_value 1048576 y k in
@@ -87,3 +87,9 @@ sub_grid x y h k =
       wider (v.size + w.size) 2097152 (sub binary32 x y) (omega (arith, v.small, w.small)) z.0,
       z.1 ∙ ap (λ (i : ℤ). i -ℤ signed w.sign w.size) (sym v.is) ∙ ap (λ (i : ℤ). grid_whole x -ℤ i) (sym w.is),
     )
+
+pub difference_on : (x y : Float) → T (on_grid 1048576 x) → T (on_grid 1048576 y) → T (on_grid 2097152 (sub binary32 x y))
+difference_on x y h k = (sub_grid x y h k).0
+
+pub difference_is : (x y : Float) → T (on_grid 1048576 x) → T (on_grid 1048576 y) → grid_whole (sub binary32 x y) ≡ grid_whole x -ℤ grid_whole y
+difference_is x y h k = (sub_grid x y h k).1

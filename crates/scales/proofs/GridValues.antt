@@ -1,5 +1,5 @@
 -- Floats that are whole numbers of 256ths. `HasValue x s n 256` says that x is n/256 in size, with the sign s. Assumes nothing.
-use Rattle.std.proofs.Common.{◌≡◌, ℕ, zero, suc, ◌-◌, ◌*◌, ◌/◌, ◌%◌, ◌^◌, ◌<◌, ◌≤◌, min, Bool, true, false, cond, not, T, eqb, leb, ℤ, pos, negsuc, neg_ℤ, nat_abs, sym, refl, ap, ◌∙◌, subst, mul-pos, div-add-mod', mul-div_cancel, arith, lit<, le→leb, eqb→eq, leb→le}
+use Rattle.std.proofs.Common.{◌≡◌, ℕ, zero, suc, ◌-◌, ◌*◌, ◌/◌, ◌%◌, ◌^◌, ◌<◌, ◌≤◌, min, Bool, true, false, cond, not, T, eqb, leb, ℤ, pos, negsuc, neg_ℤ, nat_abs, sym, refl, ap, ◌∙◌, subst, mul-pos, div-add-mod', mul-div_cancel, arith, lit<, lit≤, le→leb, eqb→eq, leb→le}
 use native.Mathlib.Nat.{mul-mod_left}
 use lib.Ieee.{Float, nan, inf, fin, binary32, up, down, round, neg, mul, div, of_int, of_bits, to_signed, unlike}
 use lib.Ieee.Exact.{HasValue, round_exact}
@@ -119,11 +119,14 @@ signed_not false n = refl
 signed_not true zero = refl
 signed_not true (suc n) = refl
 
-pub neg_on : (most : ℕ) (x : Float) → on_grid most (neg x) ≡ on_grid most x
+neg_on : (most : ℕ) (x : Float) → on_grid most (neg x) ≡ on_grid most x
 unfolding on_grid neg
 neg_on most nan = refl
 neg_on most (inf t) = refl
 neg_on most (fin t m e) = refl
+
+pub neg_grid : (most : ℕ) (x : Float) → T (on_grid most x) → T (on_grid most (neg x))
+neg_grid most x h = subst T (sym (neg_on most x)) h
 
 pub neg_whole : (x : Float) → grid_whole (neg x) ≡ neg_ℤ (grid_whole x)
 unfolding grid_whole neg
@@ -148,3 +151,9 @@ over_256 most room z h =
     let v = divided (of_int binary32 z) (below_zero z) (nat_abs z) (omega arith) (of_int_lem z (omega arith)) in
     let w = value_on_grid (div binary32 (of_int binary32 z) scale) (below_zero z) (nat_abs z) most v h in
     (w.0, w.1 ∙ signed_size z)
+
+pub limit_on : (z : ℤ) → nat_abs z ≤ 1048576 → T (on_grid 1048576 (div binary32 (of_int binary32 z) scale))
+limit_on z h = (over_256 1048576 (lit≤ tt) z h).0
+
+pub limit_is : (z : ℤ) → nat_abs z ≤ 1048576 → grid_whole (div binary32 (of_int binary32 z) scale) ≡ z
+limit_is z h = (over_256 1048576 (lit≤ tt) z h).1

@@ -6,4 +6,5 @@ pub mod Obscuration
 pub mod Order
 pub mod Panel
 pub mod Tests
+pub mod Texts
 pub mod Verdict

@@ -4,7 +4,7 @@ use Rattle.std.proofs.Common.{arith}
 use Rattle.std.proofs.lemmas.Int.{clamps, ints}
 use Rattle.scales.specs.Model.{ScaleModel, distance}
 use Rattle.scales.specs.Order.{clipped}
-use Rattle.scales.specs.declared.panel.PanelMargin.{PanelMargin}
+use Rattle.scales.specs.declared.bounded.Bounded.{Bounded}
 
 -- the lower mark clipped to -9 to 9
 abbrev pub panel_mark : (ℤ → ℤ) → ℤ → ℤ
@@ -18,7 +18,7 @@ pub clip_close : (x y : ℤ) (d : ℕ) → distance x y ≤ d → distance (clip
 clip_close x y d near = omega (arith, ints, clamps)
 
 -- the steps are the lower scale's
-abbrev pub panel : {R M : Type 0} → ScaleModel R M → ScaleModel R PanelMargin
+abbrev pub panel : {R M : Type 0} → ScaleModel R M → ScaleModel R (Bounded 9)
 panel lower = record {
   steps = lower.steps;
   whole = λ m. m.value;

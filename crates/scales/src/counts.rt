@@ -1,5 +1,5 @@
 // The scale of counts, and its margins.
-ghost use Rattle.std.specs.Prelude.{◌≡◌, ◌≤◌, unsigned_abs};
+use crate::bounded::Bounded;
 
 mod scaling;
 
@@ -13,17 +13,4 @@ impl Counts {
 }
 
 // A margin in counts. A lawful reading and a limit lie at most 1,114,111 apart, so every margin has a complement.
-#[derive(Clone, Copy, PartialEq, Eq, Debug)]
-pub struct CountMargin {
-    value: i32,
-    ghost near: { unsigned_abs value ≤ 1114111 },
-}
-
-impl CountMargin {
-    // The margin as a number of counts.
-    pub fn value(&self) -> i32
-        ensures { result ≡ self.now.value }
-    {
-        self.value
-    }
-}
+pub type CountMargin = Bounded<1_114_111>;

@@ -1,6 +1,7 @@
 // Scales: how a reading becomes steps, and how a difference in steps becomes a margin.
 #![tactic(auto)]
 
+mod bounded;
 mod counts;
 mod limit;
 mod obscuration;
@@ -11,9 +12,10 @@ mod scale;
 mod tests;
 mod verdict;
 
+pub use bounded::Bounded;
 pub use counts::{CountMargin, Counts};
-pub use limit::{Limit, Sense};
-pub use obscuration::{Obscuration, ObscurationMargin};
+pub use limit::{Limit, Sense, Test, UnknownSense};
+pub use obscuration::{Obscuration, ObscurationMargin, OnGrid};
 pub use order::{compare, higher, lower};
 pub use panel::{Panel, PanelMargin};
 pub use scale::Scale;

@@ -1,43 +1,59 @@
 // The limit of a test, and the side of it that the test asks for.
-ghost use Rattle.std.specs.Prelude.{◌≡◌, ◌≤◌, unsigned_abs};
+ghost use Rattle.std.specs.Prelude.{◌≡◌};
 ghost use Rattle.std.specs.Option.{option_map};
-ghost use Rattle.scales.specs.Limits.{bounded};
+ghost use Rattle.scales.specs.Limits.{bounded, Told};
+
+use crate::bounded::Bounded;
 
 // The sense of a test: its reading is to be at least the limit, or at most.
 #[derive(Clone, Copy, PartialEq, Eq, Debug)]
 pub enum Sense {
-    AtLeast,
-    AtMost,
+    AtLeast = 0,
+    AtMost = 1,
+}
+
+// A number that tells no sense.
+#[derive(Clone, Copy, PartialEq, Eq, Debug)]
+pub struct UnknownSense(pub u8);
+
+impl TryFrom<u8> for Sense {
+    type Error = UnknownSense;
+
+    ghost try_from_gives = { Told };
+
+    fn try_from(number: u8) -> Result<Sense, UnknownSense> {
+        match number {
+            0 => Ok(Sense::AtLeast),
+            1 => Ok(Sense::AtMost),
+            _ => Err(UnknownSense(number)),
+        }
+    }
 }
 
 // A limit: a whole number of steps from -1,048,576 to 1,048,576.
-#[derive(Clone, Copy, PartialEq, Eq, Debug)]
-pub struct Limit {
-    steps: i32,
-    ghost range: { unsigned_abs steps ≤ 1048576 },
-}
+pub type Limit = Bounded<1_048_576>;
 
 impl Limit {
-    // The lowest and the highest limit, in steps.
+    // The lowest limit, in steps.
     pub const LEAST: i32 = -1_048_576;
 
+    // The highest.
     pub const MOST: i32 = 1_048_576;
 
     // The limit of so many steps; none outside the range.
     pub fn new(steps: i32) -> Option<Limit>
-        ensures { option_map (λ l. l.steps) result ≡ bounded 1048576 steps }
+        ensures { option_map (λ l. l.value) result ≡ bounded 1048576 steps }
     {
         if steps < Limit::LEAST || Limit::MOST < steps {
             return None;
         }
-        Some(Limit { steps })
+        Some(Limit { value: steps })
     }
+}
 
-    // Its steps.
-    pub fn steps(&self) -> i32
-        ensures value { result ≡ self.now.steps }
-        ensures range { unsigned_abs result ≤ 1048576 }
-    {
-        self.steps
-    }
+// What a test asks of a reading: to keep to the limit, in this sense.
+#[derive(Clone, Copy, PartialEq, Eq, Debug)]
+pub struct Test {
+    pub sense: Sense,
+    pub limit: Limit,
 }

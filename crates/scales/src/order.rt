@@ -1,4 +1,5 @@
-// Margins in the order of their whole numbers, on any scale.
+// Margins in the order of their whole numbers, on any scale. A margin may be of any type, and only its scale orders it,
+// so this is no impl of Ord.
 ghost use Rattle.std.specs.Prelude.{◌≡◌};
 ghost use Rattle.std.specs.Int.{int_min, int_max};
 ghost use Rattle.scales.specs.Order.{ordered};

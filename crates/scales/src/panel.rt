@@ -1,9 +1,12 @@
 // The scale that a panel shows, one digit and its sign, over another scale.
-ghost use Rattle.std.specs.Prelude.{◌≡◌, ◌≤◌, unsigned_abs};
+ghost use Rattle.std.specs.Prelude.{◌≡◌};
+
+use crate::bounded::Bounded;
 
 mod scaling;
 
-// What a panel shows of a lower scale, whose steps it keeps: the mark clipped to -9 to 9.
+// What a panel shows of a lower scale, whose steps it keeps: the mark clipped to -9 to 9. It holds what `Verdict` holds, but
+// the type says which scale it is.
 #[derive(Clone, Copy)]
 pub struct Panel<S> {
     lower: S,
@@ -18,21 +21,10 @@ impl<S> Panel<S> {
     }
 }
 
-// A margin as the panel shows it.
-#[derive(Clone, Copy, PartialEq, Eq, Debug)]
-pub struct PanelMargin {
-    value: i32,
-    ghost digit: { unsigned_abs value ≤ 9 },
-}
+// A margin as the panel shows it: a digit with its sign.
+pub type PanelMargin = Bounded<9>;
 
 impl PanelMargin {
     // The highest margin that a panel shows.
     pub const MOST: u8 = 9;
-
-    // The digit with its sign.
-    pub fn value(&self) -> i32
-        ensures { result ≡ self.now.value }
-    {
-        self.value
-    }
 }

@@ -5,7 +5,7 @@ ghost use Rattle.scales.specs.Model.{ScaleModel};
 ghost use Rattle.scales.specs.Order.{clipped};
 ghost use Rattle.scales.specs.Tests.{tested};
 
-use crate::limit::{Limit, Sense};
+use crate::limit::Test;
 
 // A scale. A reading is unlawful or stands for a whole number, its steps; a margin stands for a whole number. The
 // model says which, and everything above speaks of the model, so that any type with this meaning is a scale.
@@ -16,9 +16,9 @@ pub trait Scale {
 
     ghost model: { Self → ScaleModel Self.Reading Self.Margin };
 
-    // The margin of a reading against a limit; none exactly where the reading is unlawful.
-    fn test(&self, reading: Self::Reading, sense: Sense, limit: Limit) -> Option<Self::Margin>
-        ensures { option_map (model self.now).whole result ≡ tested (model self.now) reading sense limit };
+    // The margin of a reading in a test; none exactly where the reading is unlawful.
+    fn test(&self, reading: Self::Reading, test: Test) -> Option<Self::Margin>
+        ensures { option_map (model self.now).whole result ≡ tested (model self.now) reading test };
 
     // The complement of a margin: the one of the negated whole number.
     fn complement(&self, margin: Self::Margin) -> Self::Margin

@@ -1,5 +1,8 @@
 // The scale of verdicts, yes and no, over another scale.
-ghost use Rattle.std.specs.Prelude.{◌≡◌};
+ghost use Rattle.std.specs.Prelude.{◌≡◌, Some};
+ghost use Rattle.scales.specs.Texts.{verdict_text};
+
+use std::fmt;
 
 mod scaling;
 
@@ -24,4 +27,15 @@ impl<S> Verdict<S> {
 pub enum VerdictMargin {
     Yes,
     No,
+}
+
+impl fmt::Display for VerdictMargin {
+    ghost output = { λ margin. Some (verdict_text margin) };
+
+    fn fmt<W: fmt::Write>(&self, f: &mut fmt::Formatter<W>) -> fmt::Result {
+        f.write_str(match *self {
+            VerdictMargin::Yes => "yes",
+            VerdictMargin::No => "no",
+        })
+    }
 }

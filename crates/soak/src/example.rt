@@ -1,13 +1,13 @@
 // A small soak worked out from its readings to its margins.
 use crate::failure::Failure;
-use crate::written::{either, head_test, window, zone_test};
-use entries::HeadSet;
+use crate::question::Question;
+use crate::written::{head_test, zone_test};
+use entries::{HeadSet, Operation};
 use records::{Grid, Record};
 use rules::Rule;
 use runs::rank;
-use scales::{Counts, Limit, Obscuration, Panel, Scale, Sense, Verdict, VerdictMargin};
-use std::alloc::Global;
-use watches::{Answer, Watch, survey};
+use scales::{Counts, Obscuration, Panel, Verdict};
+use watches::{Answer, Watch};
 
 // What one head read, poll by poll.
 const READINGS: [i32; 8] = [5, 9, 12, 7, 10, 3, 8, 11];
@@ -34,9 +34,24 @@ pub fn show(rt: &HostRuntime) -> Result<(), Failure> {
     show_refused_row(rt)
 }
 
+// What is asked of a record, with the memory of the system.
+fn asked<'a, S, R>(rt: &HostRuntime, scale: S, rule: Rule, record: &'a R) -> Question<'a, S, R> {
+    Question {
+        heap: rt.alloc(),
+        scale,
+        rule,
+        record,
+    }
+}
+
 // A window over one head: its margin and verdict at each poll from which the record has all its polls.
 fn show_window(rt: &HostRuntime) -> Result<(), Failure> {
-    let rule = Rule::new(&[head_test(0, 8), window(0, 3, 500)], HeadSet::starting())?;
+    let window = Operation::Window {
+        first: 0,
+        last: 3,
+        share: 500,
+    };
+    let rule = Rule::new(&[head_test(0, 8), window.into()], HeadSet::starting())?;
     let horizon = rule.horizon();
     let need = rule.need();
     println!(rt)?;
@@ -46,56 +61,15 @@ fn show_window(rt: &HostRuntime) -> Result<(), Failure> {
     )?;
     println!(rt; "It looks {horizon} polls ahead and needs {need} cells.")?;
     let soak = Grid::new(1, 8, &READINGS);
-    let margins = watched(rt.alloc(), Counts, rule, &soak)?;
-    let verdicts = watched(rt.alloc(), Verdict::over(Counts), rule, &soak)?;
+    let margins = asked(rt, Counts, rule, &soak).watched()?;
+    let verdicts = asked(rt, Verdict::over(Counts), rule, &soak).watched()?;
     for (poll, (margin, verdict)) in margins.iter().zip(verdicts.iter()).enumerate() {
-        let margin = margin.value();
-        let verdict = word(*verdict);
         println!(rt; "  poll {poll}: margin {margin}, {verdict}")?;
     }
     let fewer = rank(950, DAY);
     let more = rank(951, DAY);
     println!(rt; "Of a day's {DAY} polls, 950 thousandths are {fewer} polls, and 951 are {more}.")?;
     Ok(())
-}
-
-// What a watch answers as it takes the record's polls one by one, from the first that has all its rows on.
-fn watched<S: Scale + Copy, R: Record<Reading = S::Reading>>(
-    heap: Global,
-    scale: S,
-    rule: Rule,
-    record: &R,
-) -> Result<Vec<S::Margin>, Failure> {
-    let mut cells = lent(heap, &scale, &rule, record)?;
-    let mut watch = Watch::new(rule, scale);
-    let mut margins = Vec::new(heap);
-    for poll in 0..record.polls() {
-        watch.step(&mut cells, record, poll)?;
-        match watch.ask(&cells)? {
-            Answer::Waiting { .. } => {}
-            Answer::At { margin, .. } => margins.push(margin)?,
-        }
-    }
-    Ok(margins)
-}
-
-// Cells enough for a rule. They may hold any margins: the first head's against a limit of nought.
-fn lent<S: Scale, R: Record<Reading = S::Reading>>(
-    heap: Global,
-    scale: &S,
-    rule: &Rule,
-    record: &R,
-) -> Result<Vec<S::Margin>, Failure> {
-    let nought = Limit::new(0).ok_or(Failure::Limit)?;
-    let reading = record.reading(0, 0).ok_or(Failure::NoReading)?;
-    let margin = scale
-        .test(reading, Sense::AtLeast, nought)
-        .ok_or(Failure::NoReading)?;
-    let mut cells = Vec::new(heap);
-    for _ in 0..rule.need() {
-        cells.push(margin)?;
-    }
-    Ok(cells)
 }
 
 // The second and the third highest test of a zone's heads, by a survey.
@@ -106,8 +80,8 @@ fn show_zone(rt: &HostRuntime) -> Result<(), Failure> {
     println!(rt; "The heads of a zone read 40, 55 and 50.")?;
     for k in 2..4u8 {
         let rule = Rule::new(&[zone_test(k, 45)], zone)?;
-        let margin = surveyed(rt.alloc(), &Counts, &rule, &soak)?.value();
-        let verdict = word(surveyed(rt.alloc(), &Verdict::over(Counts), &rule, &soak)?);
+        let margin = asked(rt, Counts, rule, &soak).surveyed()?;
+        let verdict = asked(rt, Verdict::over(Counts), rule, &soak).surveyed()?;
         println!(rt; "Rule: {k} of its heads at least 45: margin {margin}, {verdict}.")?;
     }
     Ok(())
@@ -117,8 +91,8 @@ fn show_zone(rt: &HostRuntime) -> Result<(), Failure> {
 fn show_obscuration(rt: &HostRuntime) -> Result<(), Failure> {
     let rule = Rule::new(&[head_test(0, 256)], HeadSet::starting())?;
     let soak = Grid::new(1, 1, &OBSCURATION);
-    let margin = surveyed(rt.alloc(), &Obscuration, &rule, &soak)?.value();
-    let digit = surveyed(rt.alloc(), &Panel::over(Obscuration), &rule, &soak)?.value();
+    let margin = asked(rt, Obscuration, rule, &soak).surveyed()?.value();
+    let digit = asked(rt, Panel::over(Obscuration), rule, &soak).surveyed()?;
     println!(rt)?;
     println!(rt; "A head reads an obscuration of 1.25 percent per metre.")?;
     println!(rt;
@@ -127,25 +101,12 @@ fn show_obscuration(rt: &HostRuntime) -> Result<(), Failure> {
     Ok(())
 }
 
-// The margin of a rule at the record's first poll.
-fn surveyed<S: Scale, R: Record<Reading = S::Reading>>(
-    heap: Global,
-    scale: &S,
-    rule: &Rule,
-    record: &R,
-) -> Result<S::Margin, Failure> {
-    let mut cells = lent(heap, scale, rule, record)?;
-    Ok(survey(rule, scale, &mut cells, record, 0)?)
-}
-
 // A rule whose second test names a head that is not in its zone.
 fn show_refused_rule(rt: &HostRuntime) -> Result<(), Failure> {
     println!(rt)?;
     println!(rt; "A rule that tests head 7 in a zone of head 0 is no rule:")?;
-    if let Err(fault) = Rule::new(
-        &[head_test(0, 8), head_test(7, 8), either()],
-        HeadSet::starting(),
-    ) {
+    let entries = [head_test(0, 8), head_test(7, 8), Operation::Either.into()];
+    if let Err(fault) = Rule::new(&entries, HeadSet::starting()) {
         println!(rt; "  {fault}")?;
     }
     Ok(())
@@ -157,28 +118,16 @@ fn show_refused_row(rt: &HostRuntime) -> Result<(), Failure> {
     let soak = Grid::new(1, 4, &TOO_HIGH);
     println!(rt)?;
     println!(rt; "A watch that is given 5, 65535, 65536 and 7 takes all but the third:")?;
-    let mut cells = lent(rt.alloc(), &Counts, &rule, &soak)?;
+    let mut cells = asked(rt, Counts, rule, &soak).cells()?;
     let mut watch = Watch::new(rule, Counts);
-    for poll in 0..4u32 {
-        match watch.step(&mut cells, &soak, poll) {
-            Ok(()) => {}
-            Err(fault) => println!(rt; "  {fault}")?,
+    for poll in 0..soak.polls() {
+        if let Err(fault) = watch.step(&mut cells, &soak, poll) {
+            println!(rt; "  {fault}")?;
         }
     }
     match watch.ask(&cells)? {
         Answer::Waiting { rows } => println!(rt; "  {rows} rows to come")?,
-        Answer::At { poll, margin } => {
-            let margin = margin.value();
-            println!(rt; "  row {poll} has margin {margin}")?;
-        }
+        Answer::At { poll, margin } => println!(rt; "  row {poll} has margin {margin}")?,
     }
     Ok(())
-}
-
-// A verdict as a word.
-fn word(verdict: VerdictMargin) -> &'static str {
-    match verdict {
-        VerdictMargin::Yes => "yes",
-        VerdictMargin::No => "no",
-    }
 }

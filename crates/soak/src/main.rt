@@ -3,6 +3,7 @@
 
 mod example;
 mod failure;
+mod question;
 mod written;
 
 use failure::Failure;

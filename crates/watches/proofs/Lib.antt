@@ -1,5 +1,5 @@
 -- The lemmas of watches. Assumes nothing.
-pub mod HeadOrder
+pub mod HeadFaults
 pub mod RowFaults
 pub mod RowLists
 pub mod StepLaws

@@ -68,11 +68,11 @@ module _ {Reading Margin : Type 0} (sm : ScaleModel Reading Margin) (rule : Rule
     where
       later : (a b : Option WatchFault) → option_or a b ≡ None → b ≡ None
       later None b q = q
-      later (Some f) b q = let z : ◌≡◌ {A = ℕ} 0 1 = cc in absurd (omega arith)
+      later (Some f) b q = absurd (cc)
 
       room_left : (a b : Bool) (o : Option WatchFault) → cond a (Some (TooFewCells (cells_of rule) lent)) (cond b (Some Full) o) ≡ None → b ≡ false
-      room_left true b o q = let z : ◌≡◌ {A = ℕ} 0 1 = cc in absurd (omega arith)
-      room_left false true o q = let z : ◌≡◌ {A = ℕ} 0 1 = cc in absurd (omega arith)
+      room_left true b o q = absurd (cc)
+      room_left false true o q = absurd (cc)
       room_left false false o q = refl
 
 -- ---- n polls of a play, none refused

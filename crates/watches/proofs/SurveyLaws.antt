@@ -16,7 +16,7 @@ use Rattle.layout.proofs.Holdings.{holds_none}
 use Rattle.layout.proofs.Shapes.{formed}
 use Rattle.std.specs.Option.{option_or}
 use Rattle.watches.specs.Readings.{reads_head, row_fault, steps_at, row}
-use Rattle.watches.specs.Surveys.{polls_fault, rows_from, or_fault, survey_fault, Taken, Surveyed}
+use Rattle.watches.specs.Surveys.{faults_from, polls_fault, rows_from, or_fault, survey_fault, Taken, Surveyed}
 use Rattle.watches.specs.declared.refusals.WatchFault.{WatchFault}
 use Rattle.watches.specs.declared.refusals.WatchFault.TheVariants.{TooFewCells, PastTheEnd}
 use Rattle.watches.proofs.RowFaults.{none_told, some_told, row_lit}
@@ -25,11 +25,11 @@ use Rattle.watches.proofs.RowLists.{no_rows, more_rows, length_rows, row_of}
 module _ {Reading Margin : Type 0} (sm : ScaleModel Reading Margin) (rule : Rule) (rm : RecordModel Reading) (t : ℕ) where
   -- ---- the faults of the polls
   pub no_polls : polls_fault sm rule rm t 0 ≡ None
-  unfolding polls_fault
+  unfolding faults_from
   no_polls = refl
 
   next : (n : ℕ) → polls_fault sm rule rm t (suc n) ≡ option_or (polls_fault sm rule rm t n) (row_fault sm rule rm (t + n))
-  unfolding polls_fault
+  unfolding faults_from
   next n = refl
 
   at_next : (n : ℕ) → polls_fault sm rule rm t n ≡ None → polls_fault sm rule rm t (n + 1) ≡ row_fault sm rule rm (t + n)
@@ -56,7 +56,7 @@ module _ {Reading Margin : Type 0} (sm : ScaleModel Reading Margin) (rule : Rule
 
       parts : (a b : Option WatchFault) → option_or a b ≡ None → (a ≡ None) × (b ≡ None)
       parts None b e = (refl, e)
-      parts (Some f) b e = let z : ◌≡◌ {A = ℕ} 0 1 = cc in absurd (omega arith)
+      parts (Some f) b e = absurd (cc)
 
   -- ---- their rows
   pub taken_none : (cells : List Margin) → Taken sm rule rm t 0 cells cells
@@ -98,8 +98,8 @@ module _ {Reading Margin : Type 0} (sm : ScaleModel Reading Margin) (rule : Rule
     where
       cells_by : (a b : Bool) → ltb lent (cells_of rule) ≡ a → leb rm.polls (t + horizon (formula rule)) ≡ b
           → cond a (Some (TooFewCells (cells_of rule) lent)) (cond b (Some (PastTheEnd t (horizon (formula rule)) rm.polls)) (polls_fault sm rule rm t (horizon (formula rule) + 1))) ≡ None → Clear lent
-      cells_by true b ea eb q = let z : ◌≡◌ {A = ℕ} 0 1 = cc in absurd (omega arith)
-      cells_by false true ea eb q = let z : ◌≡◌ {A = ℕ} 0 1 = cc in absurd (omega arith)
+      cells_by true b ea eb q = absurd (cc)
+      cells_by false true ea eb q = absurd (cc)
       cells_by false false ea eb q = record { enough = ltb-false lent (cells_of rule) ea; within = leb-false rm.polls (t + horizon (formula rule)) eb; fine = q }
 
   pub is_surveyed : (xs ys : List Margin) (n : ℕ) (m : Margin) → n ≡ horizon (formula rule) + 1 → Ok tt ≡ checked (survey_fault sm rule rm (length xs) t) → Taken sm rule rm t (horizon (formula rule) + 1) xs ys → Latest rule n ys (Some m) → Surveyed sm rule rm t xs ys (Ok m)

@@ -26,8 +26,8 @@ use Rattle.watches.proofs.RunLaws.{stands}
 
 -- the poll and the margin of an answer that has them
 at_ready : (b c : Bool) (e : WatchFault) (k t t' : ℕ) (x x' : ℤ) → ◌≡◌ {A = Result (Answer ℤ) WatchFault} (Ok (At t x)) (cond b (Err e) (cond c (Ok (Waiting k)) (Ok (At t' x')))) → (c ≡ false) × (t ≡ t') × (x ≡ x')
-at_ready true c e k t t' x x' p = let z : ◌≡◌ {A = ℕ} 0 1 = cc in absurd (omega arith)
-at_ready false true e k t t' x x' p = let z : ◌≡◌ {A = ℕ} 0 1 = cc in absurd (omega arith)
+at_ready true c e k t t' x x' p = absurd (cc)
+at_ready false true e k t t' x x' p = absurd (cc)
 at_ready false false e k t t' x x' p = (refl, cc, cc)
 
 module _ {Reading Margin : Type 0} (sm : ScaleModel Reading Margin) (rule : Rule) (rows : List Row) (lent : ℕ) (r : Result (Answer Margin) WatchFault) (e : meant sm.whole r ≡ reply sm rule rows lent) where

@@ -6,9 +6,10 @@
 --     reply         what ask answers
 use Rattle.std.specs.Prelude.{ℕ, zero, suc, ◌+◌, ◌-◌, cond, List, [], ◌∷◌, ◌++◌, length, ℤ, Some, None, Ok, Err, Option, Result, nat_le, nat_lt}
 use Rattle.std.specs.Option.{option_or}
-use Rattle.formulas.specs.Formula.{horizon}
+use Rattle.formulas.specs.Formula.{Formula, horizon}
 use Rattle.formulas.specs.Margin.{margin}
 use Rattle.records.specs.Model.{RecordModel}
+use Rattle.rules.specs.Needs.{need}
 use Rattle.rules.specs.Rules.{zone, formula}
 use Rattle.rules.specs.declared.rule.Rule.{Rule}
 use Rattle.scales.specs.Model.{ScaleModel}
@@ -57,12 +58,17 @@ polls_to first last = last + 1 - first
 abbrev pub after_play : {Reading Margin : Type 0} → ScaleModel Reading Margin → Rule → RecordModel Reading → ℕ → ℕ → ℕ → List Row → List Row
 after_play sm rule rm first last lent rows = rows ++ rows_from sm rule rm first (play_rows sm rule rm lent (length rows) first (polls_to first last))
 
--- waiting with the rows to come while no poll has all its rows; else the latest that has, and the margin of the accepted rows there
+-- of a zone and a formula: waiting with the rows to come while no poll has all its rows; else the latest that has, and the
+-- margin of the accepted rows there
+abbrev pub reply_of : (ℤ → ℤ) → List ℕ → Formula → List Row → ℕ → Result (Answer ℤ) WatchFault
+reply_of mark zone φ rows lent =
+    cond (nat_lt lent (need zone φ)) (Err (TooFewCells (need zone φ) lent))
+    (cond (nat_le (length rows) (horizon φ)) (Ok (Waiting (horizon φ + 1 - length rows)))
+    (Ok (At (length rows - 1 - horizon φ) (margin mark zone φ (signal rows) (length rows - 1 - horizon φ)))))
+
+-- the same of a rule's zone and formula
 abbrev pub reply : {Reading Margin : Type 0} → ScaleModel Reading Margin → Rule → List Row → ℕ → Result (Answer ℤ) WatchFault
-reply sm rule rows lent =
-    cond (nat_lt lent (cells_of rule)) (Err (TooFewCells (cells_of rule) lent))
-    (cond (nat_le (length rows) (horizon (formula rule))) (Ok (Waiting (horizon (formula rule) + 1 - length rows)))
-    (Ok (At (length rows - 1 - horizon (formula rule)) (margin sm.mark (zone rule) (formula rule) (signal rows) (length rows - 1 - horizon (formula rule))))))
+reply sm rule = reply_of sm.mark (zone rule) (formula rule)
 
 -- an answer with its margin as a whole number
 abbrev pub meant : {Margin : Type 0} → (Margin → ℤ) → Result (Answer Margin) WatchFault → Result (Answer ℤ) WatchFault

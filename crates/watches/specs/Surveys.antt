@@ -1,23 +1,29 @@
 -- What a survey answers: the margin of a record at a poll. Assumes nothing.
 --     surveyed      the defined margin, or the ground that refuses
 --     Surveyed      a survey answers it, and leaves the cells behind the need
-use Rattle.std.specs.Prelude.{◌≡◌, ℕ, zero, suc, ◌+◌, ◌≤◌, true, cond, List, [], ◌∷◌, ◌++◌, length, drop, ℤ, is_err, Some, None, Ok, Err, Option, Result, nat_le, nat_lt}
-use Rattle.formulas.specs.Formula.{horizon}
+use Rattle.std.specs.Prelude.{◌≡◌, ℕ, zero, suc, ◌+◌, ◌≤◌, Bool, true, cond, List, [], ◌∷◌, ◌++◌, length, drop, ℤ, is_err, Some, None, Ok, Err, Option, Result, nat_le, nat_lt}
+use Rattle.entries.specs.Heads.{head_total}
+use Rattle.formulas.specs.Formula.{Formula, horizon, reads}
 use Rattle.formulas.specs.Margin.{margin}
 use Rattle.records.specs.Model.{RecordModel}
+use Rattle.rules.specs.Needs.{need}
 use Rattle.rules.specs.Rules.{zone, formula}
 use Rattle.rules.specs.declared.rule.Rule.{Rule}
 use Rattle.scales.specs.Model.{ScaleModel}
 use Rattle.layout.specs.Rows.{Row, cells_of, Holds}
 use Rattle.std.specs.Option.{option_or}
-use Rattle.watches.specs.Readings.{row_fault, steps_at, row}
+use Rattle.watches.specs.Readings.{reads_head, first_fault, reading_fault, steps_at, row}
 use Rattle.watches.specs.declared.refusals.WatchFault.{WatchFault}
 use Rattle.watches.specs.declared.refusals.WatchFault.TheVariants.{TooFewCells, PastTheEnd}
 
--- the first fault of n polls from poll t on, by poll and head
-unfoldable pub polls_fault : {Reading Margin : Type 0} → ScaleModel Reading Margin → Rule → RecordModel Reading → ℕ → ℕ → Option WatchFault
-polls_fault sm rule rm t zero = None
-polls_fault sm rule rm t (suc n) = option_or (polls_fault sm rule rm t n) (row_fault sm rule rm (t + n))
+-- the first fault of n polls from poll t on at the heads that are read, by poll and head
+unfoldable pub faults_from : {Reading Margin : Type 0} → ScaleModel Reading Margin → (ℕ → Bool) → RecordModel Reading → ℕ → ℕ → Option WatchFault
+faults_from sm read rm t zero = None
+faults_from sm read rm t (suc n) = option_or (faults_from sm read rm t n) (first_fault read (λ h. reading_fault sm h (t + n) (rm.at h (t + n))) head_total)
+
+-- the same at the heads that a rule reads
+abbrev pub polls_fault : {Reading Margin : Type 0} → ScaleModel Reading Margin → Rule → RecordModel Reading → ℕ → ℕ → Option WatchFault
+polls_fault sm rule rm t n = faults_from sm (reads_head rule) rm t n
 
 -- the rows of n polls from poll t on
 unfoldable pub rows_from : {Reading Margin : Type 0} → ScaleModel Reading Margin → Rule → RecordModel Reading → ℕ → ℕ → List Row
@@ -29,16 +35,24 @@ abbrev pub or_fault : Option WatchFault → ℤ → Result ℤ WatchFault
 or_fault None m = Ok m
 or_fault (Some e) m = Err e
 
--- fewer cells than the need, then a record that ends before the rule has looked, then the readings from t to t + horizon
-abbrev pub survey_fault : {Reading Margin : Type 0} → ScaleModel Reading Margin → Rule → RecordModel Reading → ℕ → ℕ → Option WatchFault
-survey_fault sm rule rm lent t =
-    cond (nat_lt lent (cells_of rule)) (Some (TooFewCells (cells_of rule) lent))
-    (cond (nat_le rm.polls (t + horizon (formula rule))) (Some (PastTheEnd t (horizon (formula rule)) rm.polls))
-    (polls_fault sm rule rm t (horizon (formula rule) + 1)))
+-- of a zone and a formula: fewer cells than the need, then a record that ends before the formula has looked, then the
+-- readings from t to t + horizon
+abbrev pub survey_fault_of : {Reading Margin : Type 0} → ScaleModel Reading Margin → List ℕ → Formula → RecordModel Reading → ℕ → ℕ → Option WatchFault
+survey_fault_of sm zone φ rm lent t =
+    cond (nat_lt lent (need zone φ)) (Some (TooFewCells (need zone φ) lent))
+    (cond (nat_le rm.polls (t + horizon φ)) (Some (PastTheEnd t (horizon φ) rm.polls))
+    (faults_from sm (reads zone φ) rm t (horizon φ + 1)))
 
 -- the margin of the record itself at poll t
+abbrev pub surveyed_of : {Reading Margin : Type 0} → ScaleModel Reading Margin → List ℕ → Formula → RecordModel Reading → ℕ → ℕ → Result ℤ WatchFault
+surveyed_of sm zone φ rm lent t = or_fault (survey_fault_of sm zone φ rm lent t) (margin sm.mark zone φ (steps_at sm rm) t)
+
+-- the same of a rule's zone and formula
+abbrev pub survey_fault : {Reading Margin : Type 0} → ScaleModel Reading Margin → Rule → RecordModel Reading → ℕ → ℕ → Option WatchFault
+survey_fault sm rule = survey_fault_of sm (zone rule) (formula rule)
+
 abbrev pub surveyed : {Reading Margin : Type 0} → ScaleModel Reading Margin → Rule → RecordModel Reading → ℕ → ℕ → Result ℤ WatchFault
-surveyed sm rule rm lent t = or_fault (survey_fault sm rule rm lent t) (margin sm.mark (zone rule) (formula rule) (steps_at sm rm) t)
+surveyed sm rule = surveyed_of sm (zone rule) (formula rule)
 
 abbrev pub whole_of : {Margin : Type 0} → (Margin → ℤ) → Result Margin WatchFault → Result ℤ WatchFault
 whole_of whole (Ok m) = Ok (whole m)

@@ -1,7 +1,7 @@
 // What a watch answers.
 use crate::refusals::WatchFault;
 
-// The answer to ask.
+// The answer to ask. Waiting is no fault, so this is no Result.
 #[derive(Clone, Copy, PartialEq, Eq, Debug)]
 pub enum Answer<M> {
     // No poll has all its rows yet: so many are to come.

@@ -2,8 +2,9 @@
 #![tactic(auto)]
 
 mod answers;
-mod readings;
+mod cells;
 mod refusals;
+mod source;
 mod surveys;
 #[cfg(test)]
 mod tests;

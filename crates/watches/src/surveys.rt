@@ -5,65 +5,58 @@ ghost use Rattle.formulas.specs.Formula.{horizon as horizon_of};
 ghost use Rattle.rules.specs.Rules.{formula};
 ghost use Rattle.watches.specs.Surveys.{polls_fault, survey_fault, Taken, Surveyed};
 
-use crate::readings::{check_cells, check_row};
+use crate::cells::check_cells;
 use crate::refusals::WatchFault;
+use crate::source::Source;
 use layout::{latest_margin, take_row};
 use records::Record;
 use rules::Rule;
 use scales::Scale;
 
-// Whether the polls that a rule looks at from one poll on have all readings, by poll and head.
-fn check_polls<S: Scale, R: Record<Reading = S::Reading>>(
-    rule: &Rule,
-    scale: &S,
-    record: &R,
-    poll: u32,
-) -> Result<(), WatchFault>
-    requires { poll + horizon_of (formula rule.now) < 2 ^ 32 }
-    ensures { result ≡ checked (polls_fault (S.Scale.model scale.now) rule.now (R.Record.model «record».now) poll (horizon_of (formula rule.now) + 1)) }
-{
-    for ahead in 0..rule.horizon() + 1 {
-        check_row(scale, rule, record, poll + ahead)?;
+impl<'a, S: Scale, R: Record<Reading = S::Reading>> Source<'a, S, R> {
+    // Whether the polls that the rule looks at from one poll on have all readings, by poll and head.
+    fn check_polls(&self, poll: u32) -> Result<(), WatchFault>
+        requires { poll + horizon_of (formula self.now.rule.now) < 2 ^ 32 }
+        ensures { result ≡ checked (polls_fault (S.Scale.model self.now.scale.now) self.now.rule.now (R.Record.model self.now.«record».now) poll (horizon_of (formula self.now.rule.now) + 1)) }
+    {
+        for ahead in 0..self.rule.horizon() + 1 {
+            self.check_row(poll + ahead)?;
+        }
+        Ok(())
     }
-    Ok(())
-}
 
-// Whether a survey can be made.
-fn check_survey<S: Scale, R: Record<Reading = S::Reading>>(
-    rule: &Rule,
-    scale: &S,
-    lent: usize,
-    record: &R,
-    poll: u32,
-) -> Result<(), WatchFault>
-    ensures { result ≡ checked (survey_fault (S.Scale.model scale.now) rule.now (R.Record.model «record».now) lent poll) }
-{
-    check_cells(rule, lent)?;
-    let horizon = rule.horizon();
-    let polls = record.polls();
-    if polls as usize <= poll as usize + horizon as usize {
-        return Err(WatchFault::PastTheEnd {
-            poll,
-            horizon,
-            polls,
-        });
+    // Whether a survey can be made.
+    fn check_survey(&self, lent: usize, poll: u32) -> Result<(), WatchFault>
+        ensures { result ≡ checked (survey_fault (S.Scale.model self.now.scale.now) self.now.rule.now (R.Record.model self.now.«record».now) lent poll) }
+    {
+        check_cells(self.rule, lent)?;
+        let horizon = self.rule.horizon();
+        let polls = self.record.polls();
+        if polls as usize <= poll as usize + horizon as usize {
+            return Err(WatchFault::PastTheEnd {
+                poll,
+                horizon,
+                polls,
+            });
+        }
+        self.check_polls(poll)
     }
-    check_polls(rule, scale, record, poll)
-}
 
-// Takes the polls that a rule looks at from one poll on as rows.
-fn take_polls<S: Scale, R: Record<Reading = S::Reading>>(
-    rule: &Rule,
-    scale: &S,
-    cells: &mut [S::Margin],
-    record: &R,
-    poll: u32,
-)
-    requires { poll + horizon_of (formula rule.now) < 2 ^ 32 }
-    ensures { Taken (S.Scale.model scale.now) rule.now (R.Record.model «record».now) poll (horizon_of (formula rule.now) + 1) cells.old cells.new }
-{
-    for ahead in 0..rule.horizon() + 1 {
-        let _ = take_row(scale, rule, ahead, record, poll + ahead, cells);
+    // Takes the polls that the rule looks at from one poll on as rows.
+    fn take_polls(&self, cells: &mut [S::Margin], poll: u32)
+        requires { poll + horizon_of (formula self.now.rule.now) < 2 ^ 32 }
+        ensures { Taken (S.Scale.model self.now.scale.now) self.now.rule.now (R.Record.model self.now.«record».now) poll (horizon_of (formula self.now.rule.now) + 1) cells.old cells.new }
+    {
+        for ahead in 0..self.rule.horizon() + 1 {
+            let _ = take_row(
+                self.scale,
+                self.rule,
+                ahead,
+                self.record,
+                poll + ahead,
+                cells,
+            );
+        }
     }
 }
 
@@ -78,7 +71,12 @@ pub fn survey<S: Scale, R: Record<Reading = S::Reading>>(
 ) -> Result<S::Margin, WatchFault>
     ensures { Surveyed (S.Scale.model scale.now) rule.now (R.Record.model «record».now) poll cells.old cells.new result }
 {
-    check_survey(rule, scale, cells.len(), record, poll)?;
-    take_polls(rule, scale, cells, record, poll);
+    let source = Source {
+        rule,
+        scale,
+        record,
+    };
+    source.check_survey(cells.len(), poll)?;
+    source.take_polls(cells, poll);
     Ok(latest_margin(rule, rule.horizon() + 1, cells).unwrap())
 }

@@ -2,4 +2,3 @@
 pub mod CallLaws
 pub mod TableLaws
 pub mod WanderLaws
-pub mod ZoneLaws

@@ -18,7 +18,8 @@ use Rattle.watches.specs.declared.answers.Answer.TheVariants.{Waiting, At}
 use Rattle.watches.specs.declared.refusals.WatchFault.{WatchFault}
 use Rattle.watches.specs.declared.refusals.WatchFault.TheVariants.{TooFewCells, Full, PastTheEnd, NoReading, Unlawful}
 use Rattle.worked.specs.Table.{Line, gives, needs, ranks, answers, surveys, obscures, at_least, Right, table}
-use Rattle.worked.specs.Zones.{reply_of, faults_from, surveyed_of}
+use Rattle.watches.specs.Calls.{reply_of}
+use Rattle.watches.specs.Surveys.{faults_from, surveyed_of}
 
 abbrev same_number : ℤ → ℤ → Bool
 same_number a b = le_z a b && le_z b a
@@ -33,8 +34,8 @@ same_margin None b = false
 
 margin_is : (a b : Option ℤ) → same_margin a b ≡ true → a ≡ b
 margin_is (Some a) (Some b) e = ap Some (number_is a b e)
-margin_is (Some a) None e = let z : ◌≡◌ {A = ℕ} 0 1 = cc in absurd (omega arith)
-margin_is None b e = let z : ◌≡◌ {A = ℕ} 0 1 = cc in absurd (omega arith)
+margin_is (Some a) None e = absurd (cc)
+margin_is None b e = absurd (cc)
 
 -- of the faults, those that the table has
 abbrev same_fault : WatchFault → WatchFault → Bool

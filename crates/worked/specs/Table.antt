@@ -23,7 +23,8 @@ use Rattle.watches.specs.declared.answers.Answer.{Answer}
 use Rattle.watches.specs.declared.answers.Answer.TheVariants.{Waiting, At}
 use Rattle.watches.specs.declared.refusals.WatchFault.{WatchFault}
 use Rattle.watches.specs.declared.refusals.WatchFault.TheVariants.{PastTheEnd}
-use Rattle.worked.specs.Zones.{reply_of, surveyed_of}
+use Rattle.watches.specs.Calls.{reply_of}
+use Rattle.watches.specs.Surveys.{surveyed_of}
 
 pub data Line : Type 0 where
   gives : (zone : List ℕ) (φ : Formula) (x : RecordModel ℤ) (t : ℕ) (m v : ℤ) → Line

@@ -57,10 +57,7 @@ pub fn may_wander<R: Record<Reading = i32>>(
 {
     let mut watch = Watch::new(rule, Counts);
     let _ = watch.play(cells, record, first, last);
-    let Ok(answer) = watch.ask(cells) else {
-        return None;
-    };
-    match answer {
+    match watch.ask(cells).ok()? {
         Answer::Waiting { .. } => None,
         Answer::At { margin, .. } => size(margin).checked_sub(1),
     }

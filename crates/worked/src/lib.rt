@@ -1,4 +1,5 @@
-// Worked examples of the contracts of watches: a run of calls of every kind, how far heads may wander, and the settled readings.
+// Worked examples of the contracts of watches: a run of calls of every kind, how far heads may wander, and the settled
+// readings.
 #![tactic(auto)]
 
 mod calls;

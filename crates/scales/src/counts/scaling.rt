@@ -2,8 +2,9 @@
 ghost use Rattle.std.specs.Prelude.{◌≡◌};
 ghost use Rattle.scales.specs.Counts.{counts};
 
+use crate::bounded::clip;
 use crate::counts::{CountMargin, Counts};
-use crate::limit::{Limit, Sense};
+use crate::limit::{Sense, Test};
 use crate::scale::Scale;
 
 impl Scale for Counts {
@@ -13,25 +14,24 @@ impl Scale for Counts {
 
     ghost model = { λ _. counts };
 
-    fn test(&self, reading: i32, sense: Sense, limit: Limit) -> Option<CountMargin> {
+    fn test(&self, reading: i32, test: Test) -> Option<CountMargin> {
         if reading < 0 || Counts::MOST < reading {
             return None;
         }
-        let value = match sense {
-            Sense::AtLeast => reading - limit.steps(),
-            Sense::AtMost => limit.steps() - reading,
+        let limit = test.limit.value();
+        let value = match test.sense {
+            Sense::AtLeast => reading - limit,
+            Sense::AtMost => limit - reading,
         };
         Some(CountMargin { value })
     }
 
     fn complement(&self, margin: CountMargin) -> CountMargin {
-        CountMargin {
-            value: -margin.value,
-        }
+        -margin
     }
 
     fn exceeds(&self, a: CountMargin, b: CountMargin) -> bool {
-        b.value < a.value
+        b < a
     }
 
     fn holds(&self, margin: CountMargin) -> bool {
@@ -39,8 +39,7 @@ impl Scale for Counts {
     }
 
     fn clip(&self, margin: CountMargin, most: u8) -> i32 {
-        let most = most as i32;
-        margin.value.clamp(-most, most)
+        clip(margin.value, most)
     }
 
     fn reach(&self, apart: u32) -> u32 {

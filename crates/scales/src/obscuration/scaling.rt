@@ -2,8 +2,10 @@
 ghost use Rattle.std.specs.Prelude.{◌≡◌};
 ghost use Rattle.scales.specs.Obscuration.{obscuration};
 
-use crate::limit::{Limit, Sense};
-use crate::obscuration::{Obscuration, ObscurationMargin, grid};
+use crate::bounded::clip;
+use crate::limit::{Sense, Test};
+use crate::obscuration::grid::Lawful;
+use crate::obscuration::{Obscuration, ObscurationMargin};
 use crate::scale::Scale;
 
 impl Scale for Obscuration {
@@ -13,35 +15,29 @@ impl Scale for Obscuration {
 
     ghost model = { λ _. obscuration };
 
-    fn test(&self, reading: f32, sense: Sense, limit: Limit) -> Option<ObscurationMargin> {
-        if !grid::is_lawful(reading) {
-            return None;
-        }
-        let bound = grid::from_steps(limit.steps());
-        let value = match sense {
-            Sense::AtLeast => grid::minus(reading, bound),
-            Sense::AtMost => grid::minus(bound, reading),
-        };
-        Some(ObscurationMargin { value })
+    fn test(&self, reading: f32, test: Test) -> Option<ObscurationMargin> {
+        let reading = Lawful::of(reading)?;
+        let limit = Lawful::from_steps(test.limit.value());
+        Some(match test.sense {
+            Sense::AtLeast => reading.minus(limit),
+            Sense::AtMost => limit.minus(reading),
+        })
     }
 
     fn complement(&self, margin: ObscurationMargin) -> ObscurationMargin {
-        ObscurationMargin {
-            value: grid::negated(margin.value),
-        }
+        -margin
     }
 
     fn exceeds(&self, a: ObscurationMargin, b: ObscurationMargin) -> bool {
-        grid::is_below(b.value, a.value)
+        b.is_below(a)
     }
 
     fn holds(&self, margin: ObscurationMargin) -> bool {
-        !grid::is_below(margin.value, grid::from_steps(0))
+        0 <= margin.steps()
     }
 
     fn clip(&self, margin: ObscurationMargin, most: u8) -> i32 {
-        let most = most as i32;
-        grid::to_steps(margin.value).clamp(-most, most)
+        clip(margin.steps(), most)
     }
 
     fn reach(&self, apart: u32) -> u32 {

@@ -2,7 +2,8 @@
 ghost use Rattle.std.specs.Prelude.{◌≡◌};
 ghost use Rattle.scales.specs.Panel.{panel};
 
-use crate::limit::{Limit, Sense};
+use crate::bounded::clip;
+use crate::limit::Test;
 use crate::panel::{Panel, PanelMargin};
 use crate::scale::Scale;
 
@@ -13,20 +14,19 @@ impl<S: Scale> Scale for Panel<S> {
 
     ghost model = { λ p. panel (S.Scale.model p.lower) };
 
-    fn test(&self, reading: S::Reading, sense: Sense, limit: Limit) -> Option<PanelMargin> {
-        let margin = self.lower.test(reading, sense, limit)?;
+    fn test(&self, reading: S::Reading, test: Test) -> Option<PanelMargin> {
+        let margin = self.lower.test(reading, test)?;
         let value = self.lower.clip(margin, PanelMargin::MOST);
         Some(PanelMargin { value })
     }
 
+    // A scale answers for its own margins, so these are as those of counts, and rest on what `Bounded` shares.
     fn complement(&self, margin: PanelMargin) -> PanelMargin {
-        PanelMargin {
-            value: -margin.value,
-        }
+        -margin
     }
 
     fn exceeds(&self, a: PanelMargin, b: PanelMargin) -> bool {
-        b.value < a.value
+        b < a
     }
 
     fn holds(&self, margin: PanelMargin) -> bool {
@@ -34,8 +34,7 @@ impl<S: Scale> Scale for Panel<S> {
     }
 
     fn clip(&self, margin: PanelMargin, most: u8) -> i32 {
-        let most = most as i32;
-        margin.value.clamp(-most, most)
+        clip(margin.value, most)
     }
 
     fn reach(&self, apart: u32) -> u32 {

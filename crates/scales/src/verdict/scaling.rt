@@ -2,7 +2,7 @@
 ghost use Rattle.std.specs.Prelude.{◌≡◌};
 ghost use Rattle.scales.specs.Verdict.{verdict};
 
-use crate::limit::{Limit, Sense};
+use crate::limit::Test;
 use crate::scale::Scale;
 use crate::verdict::{Verdict, VerdictMargin};
 
@@ -13,13 +13,13 @@ impl<S: Scale> Scale for Verdict<S> {
 
     ghost model = { λ v. verdict (S.Scale.model v.lower) };
 
-    fn test(&self, reading: S::Reading, sense: Sense, limit: Limit) -> Option<VerdictMargin> {
-        let margin = self.lower.test(reading, sense, limit)?;
-        if self.lower.holds(margin) {
-            Some(VerdictMargin::Yes)
+    fn test(&self, reading: S::Reading, test: Test) -> Option<VerdictMargin> {
+        let margin = self.lower.test(reading, test)?;
+        Some(if self.lower.holds(margin) {
+            VerdictMargin::Yes
         } else {
-            Some(VerdictMargin::No)
-        }
+            VerdictMargin::No
+        })
     }
 
     fn complement(&self, margin: VerdictMargin) -> VerdictMargin {

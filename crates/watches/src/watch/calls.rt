@@ -5,8 +5,9 @@ ghost use Rattle.watches.specs.Watching.{Made, Cleared, Written, Stepped, Asked}
 ghost use Rattle.watches.specs.Worth.{AfterEveryRun};
 
 use crate::answers::Answer;
-use crate::readings::{check_cells, check_row};
+use crate::cells::check_cells;
 use crate::refusals::{ROWS, WatchFault};
+use crate::source::Source;
 use crate::watch::Watch;
 use layout::{latest_margin, take_row};
 use records::Record;
@@ -53,7 +54,12 @@ impl<S: Scale> Watch<S> {
         if self.rows >= ROWS {
             return Err(WatchFault::Full);
         }
-        check_row(&self.scale, &self.rule, record, poll)?;
+        let source = Source {
+            rule: &self.rule,
+            scale: &self.scale,
+            record,
+        };
+        source.check_row(poll)?;
         let _ = take_row(&self.scale, &self.rule, self.rows, record, poll, cells);
         Ok(())
     }

@@ -1,43 +1,28 @@
-use Rattle.std.proofs.Common.{◌≡◌, sym, ◌∙◌, arith}
-use Rattle.std.proofs.lemmas.Int.{ints}
-use Rattle.runs.proofs.Kept.{placed_from, kept_read, take_refused, take_outside}
+use Rattle.std.proofs.Common.{◌≡◌, Bool, true, false, cond, not, ◌&&◌, slice_get, Some, None, refl, ◌∙◌, ap}
+use lib.Signed.{lt_z}
+use Rattle.std.specs.Ordering.{is_eq}
+use Rattle.std.specs.declared.cmp.Ordering.TheVariants.{Less, Equal, Greater}
+use Rattle.std.proofs.lemmas.Option.{slice_get_past, slice_get_read}
+use Rattle.runs.proofs.Kept.{absent_past, looked_at}
 use Rattle.runs.proofs.cells.find.Goals as goal
-use Rattle.runs.proofs.cells.find.Goals.{then-exceeds-via-then-exceeds, then-exceeds-via-else-exceeds+then-exceeds-2}
 
-pub returns-then-at-used : goal.returns-then-at-used
-returns-then-at-used g c =
-    let whole = (g.S.Scale.model c.args.scale.now).whole in
-    let xs = c.args.cells.now in
-    take_refused whole xs c.args.used c.args.m c.place-at.result
-    (placed_from whole xs c.args.used c.args.m c.place-at.result c.place-at.ensures.counts) (λ l d s. omega arith) (omega arith)
+-- neither of two tests says that one is above the other
+level : (below above : Bool) → is_eq (cond below Less (cond above Greater Equal)) ≡ (not above && not below)
+level true true = refl
+level true false = refl
+level false true = refl
+level false false = refl
 
-pub returns-then-exceeds : goal.returns-then-exceeds
-returns-then-exceeds g c =
-    let whole = (g.S.Scale.model c.args.scale.now).whole in
-    let xs = c.args.cells.now in
-    let x = c.index-cells-at.result in
-    let other : whole x ≡ whole c.args.m → ⊥ =
-    λ q. elim c.then-exceeds.branch [
-      | then-exceeds-via-then-exceeds w ↦ let t = w.if-exceeds.ensures in omega (arith, ints)
-      | then-exceeds-via-else-exceeds+then-exceeds-2 w ↦ let t = w.if-exceeds-2.ensures in omega (arith, ints)
-    ] in
-    take_refused whole xs c.args.used c.args.m c.place-at.result
-    (placed_from whole xs c.args.used c.args.m c.place-at.result c.place-at.ensures.counts)
-    (λ l d s. other (sym (kept_read whole xs c.args.used c.args.m c.place-at.result x l (omega arith) c.index-cells-at.is) ∙ s)) (omega arith)
+pub returns-in_err-x : goal.returns-in_err-x
+returns-in_err-x g c =
+    let past : slice_get c.args.margins.now c.place-at.result ≡ None = slice_get_past c.args.margins.now c.place-at.result c.in_err-x.ensures.lookup.3 in
+    rw c.from_residual.ensures (absent_past (g.S.Scale.model c.args.scale.now).whole c.args.margins.now c.args.m c.place-at.result c.place-at.ensures.counts past)
 
 pub returns : goal.returns
 returns g c =
     let whole = (g.S.Scale.model c.args.scale.now).whole in
-    let xs = c.args.cells.now in
-    let x = c.index-cells-at.result in
-    let up = c.if-exceeds.ensures in
-    let down = c.if-exceeds-2.ensures in
-    record {
-      inside = omega arith;
-      within = omega arith;
-      place = placed_from whole xs c.args.used c.args.m c.place-at.result c.place-at.ensures.counts;
-      same = kept_read whole xs c.args.used c.args.m c.place-at.result x (omega arith) (omega arith) c.index-cells-at.is ∙ omega (arith, ints);
-    }
-
-pub returns-then-used-cells : goal.returns-then-used-cells
-returns-then-used-cells g c = take_outside (g.S.Scale.model c.args.scale.now).whole c.args.cells.now c.args.used c.args.m (omega arith)
+    let ms = c.args.margins.now in
+    let x = c.in_ok-x.field-0.now in
+    let read : slice_get ms c.place-at.result ≡ Some x = slice_get_read ms _ c.place-at.result x refl c.in_ok-x.ensures.lookup.3.0 c.in_ok-x.ensures.lookup.1 in
+    let same = c.is_eq.ensures ∙ ap is_eq c.compare.ensures ∙ level (lt_z (whole c.args.m) (whole x)) (lt_z (whole x) (whole c.args.m)) in
+    rw c.then_some.ensures (looked_at whole ms c.args.m c.place-at.result c.place-at.ensures.counts x c.is_eq.result read same)

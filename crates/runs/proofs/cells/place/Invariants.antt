@@ -6,8 +6,7 @@ use Rattle.runs.proofs.cells.place.Given as goal
 abbrev pub invariant-loop-level : goal.invariant-loop-level
 invariant-loop-level g l =
     let whole = (g.S.Scale.model l.scale).whole in
-    (l.level < 64) × (l.base + 2 ^ l.level ≤ length l.margins + 1)
-    × (Descending (map whole l.margins) → (l.base ≤ above (whole l.m) (map whole l.margins)) × (above (whole l.m) (map whole l.margins) < l.base + 2 ^ l.level))
-
-abbrev pub decreases-loop-level : goal.decreases-loop-level
-decreases-loop-level g l = l.level
+    record {
+      within : l.base + 2 ^ l.level ≤ length l.margins + 1;
+      around : Descending (map whole l.margins) → (l.base ≤ above (whole l.m) (map whole l.margins)) × (above (whole l.m) (map whole l.margins) < l.base + 2 ^ l.level);
+    }

@@ -1,11 +1,6 @@
-use Rattle.std.proofs.Common.{ap, ◌∙◌, arith}
-use Rattle.std.proofs.lemmas.List.{take_all}
-use Rattle.formulas.specs.Formula.{among}
+use Rattle.std.proofs.Common.{arith}
 use Rattle.entries.proofs.Adding.{listed_more}
 use Rattle.entries.proofs.heads.HeadSet.of.Goals as goal
 
-pub loop-i-preserved : goal.loop-i-preserved
-loop-i-preserved c = listed_more _ _ c.args.heads.now c.loop-i.i (omega arith) c.loop-i.invariant c.in-Some.ensures
-
-pub returns : goal.returns
-returns c h = c.loop-i.invariant h ∙ ap (among h) (take_all c.loop-i.i c.args.heads.now (omega arith))
+pub loop-head-preserved : goal.loop-head-preserved
+loop-head-preserved c = listed_more _ _ c.args.heads.now c.loop-head.head-index (omega arith) c.loop-head.invariant c.in_ok-set.ensures

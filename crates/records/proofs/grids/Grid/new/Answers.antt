@@ -1,13 +1,13 @@
 -- The grid made has the model of what it was given. Assumes nothing.
-use Rattle.std.proofs.Common.{length, sym, ap, ◌∙◌}
-use Rattle.records.specs.Grid.{grid_record, grid_fault}
-use Rattle.records.proofs.ModelLaws.{refused}
+use Rattle.std.proofs.Common.{List, [], ap, ◌∙◌}
+use Rattle.records.specs.Grid.{grid_record}
+use Rattle.records.specs.declared.grids.Grid.{Grid}
+use Rattle.records.proofs.ModelLaws.{made_or_empty}
 use Rattle.records.proofs.grids.Grid.new.Goals as goal
-use Rattle.records.proofs.grids.Grid.new.Goals.{in-Ok, in-Err}
 
 pub returns : goal.returns
 returns g c =
-    elim c.match-check.branch [
-      | in-Ok w ↦ ap (λ v. grid_record v.0 v.1.0 v.1.1.0.now) w.result-is
-      | in-Err w ↦ ap (λ v. grid_record v.0 v.1.0 v.1.1.0.now) w.result-is ∙ sym (refused (grid_fault c.args.heads c.args.polls (length c.args.readings.now)) w.in-Err.field-0 _ (sym w.in-Err.is ∙ c.check.ensures))
-    ]
+    let m = λ (v : Grid g.row.T.Denot). grid_record v.size.heads v.size.polls v.readings.now in
+    let none : List g.row.T.Denot = [] in
+    ap m c.unwrap_or.ensures
+    ∙ made_or_empty c.made.result _ m _ _ c.made.ensures.fault c.made.ensures.grid (ap (λ h. grid_record h c.none.result.polls none) c.none.ensures.heads)

@@ -3,16 +3,6 @@ use Rattle.std.proofs.Common.{◌≡◌, ap, ◌∙◌}
 use Rattle.records.specs.Faults.{record_ground, ground_six}
 use Rattle.records.proofs.refusals.RecordFaultDisplay.fmt.Goals as goal
 
-pub returns-in-HeadsOutOfRange-clause-writes : goal.returns-in-HeadsOutOfRange-clause-writes
-returns-in-HeadsOutOfRange-clause-writes g c =
-    let e : c.ground-ground.result ≡ ground_six = c.ground-ground.ensures ∙ ap record_ground c.in-HeadsOutOfRange.is in
-    rw c.in-HeadsOutOfRange.is (simp e at c.write.ensures.writes)
-
-pub returns-in-TooManyPolls-clause-writes : goal.returns-in-TooManyPolls-clause-writes
-returns-in-TooManyPolls-clause-writes g c =
-    let e : c.ground-ground.result ≡ ground_six = c.ground-ground.ensures ∙ ap record_ground c.in-TooManyPolls.is in
-    simp c.in-TooManyPolls.is (simp e at c.write-in-TooManyPolls.ensures.writes)
-
 pub returns-in-ReadingsDoNotFill-clause-writes : goal.returns-in-ReadingsDoNotFill-clause-writes
 returns-in-ReadingsDoNotFill-clause-writes g c =
     let e : c.ground-ground.result ≡ ground_six = c.ground-ground.ensures ∙ ap record_ground c.in-ReadingsDoNotFill.is in

@@ -2,11 +2,6 @@ use Rattle.std.proofs.Common.{◌≡◌, ap, ◌∙◌}
 use Rattle.watches.specs.Faults.{watch_ground, at_whole, at_reading}
 use Rattle.watches.proofs.refusals.WatchFaultDisplay.fmt.Goals as goal
 
-pub returns-in-TooFewCells-clause-writes : goal.returns-in-TooFewCells-clause-writes
-returns-in-TooFewCells-clause-writes g c =
-    let e : c.ground-ground.result ≡ at_whole 8 = c.ground-ground.ensures ∙ ap watch_ground c.in-TooFewCells.is in
-    simp c.in-TooFewCells.is (simp e at c.write.ensures.writes)
-
 pub returns-in-Full-clause-writes : goal.returns-in-Full-clause-writes
 returns-in-Full-clause-writes g c =
     let e : c.ground-ground.result ≡ at_whole 9 = c.ground-ground.ensures ∙ ap watch_ground c.in-Full.is in

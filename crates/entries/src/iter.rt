@@ -1,0 +1,51 @@
+// The heads of a set, one after another.
+ghost use Rattle.std.specs.Prelude.{◌≡◌};
+ghost use Rattle.std.specs.Iterator.{YieldsFirst, item_count};
+ghost use Rattle.entries.specs.Heads.{heads};
+ghost use Rattle.entries.specs.Iter.{heads_left};
+
+use crate::heads::HeadSet;
+
+// The heads of a set that are still to come, in rising order.
+#[derive(Clone, Debug, Drop)]
+pub struct Heads {
+    set: HeadSet,
+    from: u8,
+}
+
+impl Iterator for Heads {
+    type Item = u8;
+
+    ghost next_gives = { YieldsFirst heads_left };
+
+    ghost remaining = { item_count heads_left };
+
+    #[tactic(auto, using(crate::proofs::Walking::none_left, crate::proofs::Walking::first_left, crate::proofs::Walking::first_low))]
+    fn next(&mut self) -> Option<u8> {
+        let head = self.set.next(self.from)?;
+        self.from = head + 1;
+        Some(head)
+    }
+}
+
+impl HeadSet {
+    // All its heads, in rising order.
+    #[tactic(auto, using(crate::proofs::Walking::heads_all))]
+    pub fn iter(self) -> Heads
+        ensures { heads_left result ≡ heads self.bits }
+    {
+        Heads { set: self, from: 0 }
+    }
+}
+
+impl IntoIterator for HeadSet {
+    type Item = u8;
+
+    type IntoIter = Heads;
+
+    ghost into_iter_gives = { λ set it. heads_left it ≡ heads set.bits };
+
+    fn into_iter(self) -> Heads {
+        self.iter()
+    }
+}

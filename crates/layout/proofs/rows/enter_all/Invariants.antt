@@ -1,7 +1,0 @@
-use Rattle.layout.specs.Steps.{row_at}
-use Rattle.layout.specs.Shape.{shape}
-use Rattle.layout.proofs.Passes.{EnteredTo}
-use Rattle.layout.proofs.rows.enter_all.Given as goal
-
-abbrev pub invariant-loop-at : goal.invariant-loop-at
-invariant-loop-at g l = EnteredTo (g.S.Scale.model l.scale) (shape l.rule) (row_at (g.R.Record.model l.«record») l.poll) l.rows l.at l.from l.leaving l.initial.cells l.cells

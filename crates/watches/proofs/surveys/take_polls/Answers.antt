@@ -1,9 +1,0 @@
-use Rattle.std.proofs.Common.{arith}
-use Rattle.watches.proofs.SurveyLaws.{taken_none, taken_more}
-use Rattle.watches.proofs.surveys.take_polls.Goals as goal
-
-pub loop-ahead-init : goal.loop-ahead-init
-loop-ahead-init g c = taken_none (g.S.Scale.model c.args.scale.now) c.args.rule.now (g.R.Record.model c.args.«record».now) c.args.poll c.args.cells.now
-
-pub loop-ahead-preserved : goal.loop-ahead-preserved
-loop-ahead-preserved g c = taken_more (g.S.Scale.model c.args.scale.now) c.args.rule.now (g.R.Record.model c.args.«record».now) c.args.poll c.loop-ahead.ahead _ c.args.cells.now c.loop-ahead.cells _ c.take_row.result (omega arith) c.take_row.ensures c.loop-ahead.invariant

@@ -8,6 +8,7 @@ use rules::Rule;
 use runs::rank;
 use scales::{Counts, Obscuration, Panel, Verdict};
 use watches::{Answer, Watch};
+use worked::may_wander;
 
 // What one head read, poll by poll.
 const READINGS: [i32; 8] = [5, 9, 12, 7, 10, 3, 8, 11];
@@ -66,6 +67,12 @@ fn show_window(rt: &HostRuntime) -> Result<(), Failure> {
     for (poll, (margin, verdict)) in margins.iter().zip(verdicts.iter()).enumerate() {
         println!(rt; "  poll {poll}: margin {margin}, {verdict}")?;
     }
+    let mut cells = asked(rt, Counts, rule, &soak).cells()?;
+    if let Some(steps) = may_wander(rule, &mut cells, &soak, 0, 7) {
+        println!(rt;
+            "With the margin at poll 4, head 0 may read {steps} step off at any poll with no other verdict there."
+        )?;
+    }
     let fewer = rank(950, DAY);
     let more = rank(951, DAY);
     println!(rt; "Of a day's {DAY} polls, 950 thousandths are {fewer} polls, and 951 are {more}.")?;
@@ -112,19 +119,21 @@ fn show_refused_rule(rt: &HostRuntime) -> Result<(), Failure> {
     Ok(())
 }
 
-// A row that a watch refuses; it keeps those that it has taken.
+// A play that a row stops: it keeps the rows before, and another goes on behind it.
 fn show_refused_row(rt: &HostRuntime) -> Result<(), Failure> {
     let rule = Rule::new(&[head_test(0, 8)], HeadSet::starting())?;
     let soak = Grid::new(1, 4, &TOO_HIGH);
     println!(rt)?;
-    println!(rt; "A watch that is given 5, 65535, 65536 and 7 takes all but the third:")?;
+    println!(rt; "A play over 5, 65535, 65536 and 7 is stopped by the third:")?;
     let mut cells = asked(rt, Counts, rule, &soak).cells()?;
     let mut watch = Watch::new(rule, Counts);
-    for poll in 0..soak.polls() {
-        if let Err(fault) = watch.step(&mut cells, &soak, poll) {
-            println!(rt; "  {fault}")?;
-        }
+    let play = watch.play(&mut cells, &soak, 0, 3);
+    println!(rt; "  {} rows taken", play.rows)?;
+    if let Some(fault) = play.fault {
+        println!(rt; "  {fault}")?;
     }
+    let play = watch.play(&mut cells, &soak, 3, 3);
+    println!(rt; "  {} row taken of poll 3", play.rows)?;
     match watch.ask(&cells)? {
         Answer::Waiting { rows } => println!(rt; "  {rows} rows to come")?,
         Answer::At { poll, margin } => println!(rt; "  row {poll} has margin {margin}")?,

@@ -27,13 +27,17 @@ impl<'a, S: Scale + Copy, R: Record<Reading = S::Reading>> Question<'a, S, R> {
         vec![in self.heap; margin; self.rule.need()].map_err(|_| Failure::Memory)
     }
 
-    // What a watch answers as it takes the record's polls one by one, from the first that has all its rows on.
+    // What a watch answers at each poll that has all its rows: the first play takes the rows of poll 0, every other one more.
     pub fn watched(&self) -> Result<Vec<S::Margin>, Failure> {
         let mut cells = self.cells()?;
         let mut watch = Watch::new(self.rule, self.scale);
         let mut margins = Vec::new(self.heap);
-        for poll in 0..self.record.polls() {
-            watch.step(&mut cells, self.record, poll)?;
+        let mut first = 0;
+        for last in self.rule.horizon()..self.record.polls() {
+            if let Some(fault) = watch.play(&mut cells, self.record, first, last).fault {
+                return Err(fault.into());
+            }
+            first = last + 1;
             if let Answer::At { margin, .. } = watch.ask(&cells)? {
                 margins.push(margin).map_err(|_| Failure::Memory)?;
             }

@@ -19,13 +19,13 @@ united y z small other h =
     ∙ sym (among-append h (heads y) (heads z) ∙ ap₂ ◌||◌ (among_heads y h small) (among_heads z h other))
 
 -- what `1 << h` is
-pub shifted : (h : ℕ) → h < head_total → 1 * 2 ^ h % 2 ^ 128 ≡ 2 ^ h
-shifted h near = one_shl h 128 (omega arith)
+pub shifted : (h : ℕ) → h < head_total → 1 * 2 ^ h % 2 ^ 64 ≡ 2 ^ h
+shifted h near = one_shl h 64 (omega arith)
 
-pub fits : (z h : ℕ) → z < 2 ^ head_total → h < head_total → bit_or z (1 * 2 ^ h % 2 ^ 128) < 2 ^ head_total
+pub fits : (z h : ℕ) → z < 2 ^ head_total → h < head_total → bit_or z (1 * 2 ^ h % 2 ^ 64) < 2 ^ head_total
 fits z h small near = rw (shifted h near) (both_fit z (2 ^ h) small (pow_below h head_total near))
 
-pub added : (z h : ℕ) → z < 2 ^ head_total → h < head_total → SameHeads (heads (bit_or z (1 * 2 ^ h % 2 ^ 128))) (h ∷ heads z)
+pub added : (z h : ℕ) → z < 2 ^ head_total → h < head_total → SameHeads (heads (bit_or z (1 * 2 ^ h % 2 ^ 64))) (h ∷ heads z)
 added z h small near j =
     among_heads _ j (fits z h small near)
     ∙ ap (λ n. has (bit_or z n) j) (shifted h near)

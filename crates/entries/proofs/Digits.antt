@@ -7,12 +7,12 @@ use Rattle.std.proofs.lemmas.Nat.{shr-shr}
 use Rattle.std.proofs.lemmas.Nat.Bits.{bit_at-zero, bit_at-trailing_zeros}
 use Rattle.std.proofs.Math.Nat.{div-le_self}
 use Rattle.std.proofs.lemmas.Bool.{cases_eq, cases_lt, both_ways, lt-ltb}
-use mir.Syntax.{w128}
+use mir.Syntax.{w64}
 use Rattle.formulas.specs.Formula.{among}
 use Rattle.entries.specs.Heads.{head_total, has, heads, first_from}
 use Rattle.entries.proofs.Listing.{among_heads, low_head, rising, first_none, first_is}
 
-none_of_zero : (h : ℕ) → then_some (ltb (trailing_zeros w128 0) 128) (h + trailing_zeros w128 0) ≡ None
+none_of_zero : (h : ℕ) → then_some (ltb (trailing_zeros w64 0) 64) (h + trailing_zeros w64 0) ≡ None
 unfolding count_trailing_zeros
 none_of_zero h = refl
 
@@ -27,20 +27,20 @@ module _ (z from : ℕ) (small : z < 2 ^ head_total) where
   clear h le e = ahead h le ∙ ap (λ n. eqb n 1) e
 
   -- the first head at or after `from`, as `trailing_zeros` finds it
-  pub next_is : from < head_total → then_some (ltb (trailing_zeros w128 (z / 2 ^ from)) 128) (from + trailing_zeros w128 (z / 2 ^ from)) ≡ first_from from (heads z)
+  pub next_is : from < head_total → then_some (ltb (trailing_zeros w64 (z / 2 ^ from)) 64) (from + trailing_zeros w64 (z / 2 ^ from)) ≡ first_from from (heads z)
   next_is near = ⊎_elim empty found (cases_eq (z / 2 ^ from) 0)
     where
-      empty : z / 2 ^ from ≡ 0 → then_some (ltb (trailing_zeros w128 (z / 2 ^ from)) 128) (from + trailing_zeros w128 (z / 2 ^ from)) ≡ first_from from (heads z)
+      empty : z / 2 ^ from ≡ 0 → then_some (ltb (trailing_zeros w64 (z / 2 ^ from)) 64) (from + trailing_zeros w64 (z / 2 ^ from)) ≡ first_from from (heads z)
       empty e =
           rw e (none_of_zero _ ∙ sym (first_none from (heads z) (λ h m.
           ⊎_elim (λ (q : h < from). q) (λ (q : from ≤ h). absurd (both_ways _ (clear h q (ap (λ n. bit_at n (h - from)) e ∙ bit_at-zero (h - from))) m)) (cases_lt h from))))
 
-      found : (z / 2 ^ from ≡ 0 → ⊥) → then_some (ltb (trailing_zeros w128 (z / 2 ^ from)) 128) (from + trailing_zeros w128 (z / 2 ^ from)) ≡ first_from from (heads z)
+      found : (z / 2 ^ from ≡ 0 → ⊥) → then_some (ltb (trailing_zeros w64 (z / 2 ^ from)) 64) (from + trailing_zeros w64 (z / 2 ^ from)) ≡ first_from from (heads z)
       found d =
           let n = z / 2 ^ from in
-          let t = bit_at-trailing_zeros w128 n (omega arith) (omega (arith, div-le_self z (2 ^ from))) in
-          let g = from + trailing_zeros w128 n in
-          let at : g - from ≡ trailing_zeros w128 n = omega arith in
+          let t = bit_at-trailing_zeros w64 n (omega arith) (omega (arith, div-le_self z (2 ^ from))) in
+          let g = from + trailing_zeros w64 n in
+          let at : g - from ≡ trailing_zeros w64 n = omega arith in
           ap (λ b. then_some b g) (lt-ltb _ _ t.0)
           ∙ sym (first_is from g (heads z) (rising z)
           (ahead g (omega arith) ∙ ap (λ m. eqb (bit_at n m) 1) at ∙ ap (λ m. eqb m 1) t.1)

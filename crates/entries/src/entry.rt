@@ -2,8 +2,9 @@
 
 // An entry: its kind's number and the fields that some kind has. A caller may hold anything in it, so kind and sense
 // stay numbers: a wrong one is refused where a rule is made, and an enum here would ask more of callers. Fields that the kind
-// does not have are not looked at.
-#[derive(Clone, Copy, PartialEq, Eq, Debug)]
+// does not have are not looked at. It lies as C lays it out, so that firmware in C can lend a list of them.
+#[repr(C)]
+#[derive(Clone, Copy, PartialEq, Eq, Debug, Default)]
 pub struct Entry {
     pub kind: u8,
     pub head: u8,

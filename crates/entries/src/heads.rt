@@ -9,7 +9,7 @@ pub const HEADS: u8 = 64;
 // A set of heads, one bit for each.
 #[derive(Clone, Copy, PartialEq, Eq, Debug)]
 pub struct HeadSet {
-    bits: u128,
+    bits: u64,
     ghost few: { bits < 2 ^ head_total },
 }
 
@@ -28,6 +28,14 @@ impl HeadSet {
         ensures { heads_of result.bits ≡ 0 ∷ [] }
     {
         HeadSet { bits: 1 }
+    }
+
+    // The set of the heads whose bits are set.
+    #[tactic(auto, unfolding(crate::specs::Heads::head_total))]
+    pub fn of_bits(bits: u64) -> HeadSet
+        ensures { result.bits ≡ bits }
+    {
+        HeadSet { bits }
     }
 
     // The set with one head more; none where there is no such head.
@@ -91,6 +99,6 @@ impl HeadSet {
             return None;
         }
         let ahead = (self.bits >> from).trailing_zeros();
-        (ahead < u128::BITS).then_some(from + ahead as u8)
+        (ahead < u64::BITS).then_some(from + ahead as u8)
     }
 }

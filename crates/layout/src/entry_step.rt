@@ -59,6 +59,8 @@ impl<'a, S: Scale, R: Record<Reading = S::Reading>> EntryStep<'a, S, R> {
             rule: self.row.rule,
             at: of,
             cells,
+            latest: self.row.rows,
+            slot: self.row.slot,
         };
         let horizon = ring.horizon();
         if self.row.rows < horizon {
@@ -86,6 +88,8 @@ impl<'a, S: Scale, R: Record<Reading = S::Reading>> EntryStep<'a, S, R> {
             rule,
             at: self.at,
             cells,
+            latest: self.row.rows,
+            slot: self.row.slot,
         };
         match self.node {
             Node::HeadTest { head, test } => self.row.test(head, test),
@@ -118,6 +122,8 @@ impl<'a, S: Scale, R: Record<Reading = S::Reading>> EntryStep<'a, S, R> {
             rule: self.row.rule,
             at: self.at,
             cells,
+            latest: self.row.rows,
+            slot: self.row.slot,
         };
         if self.row.rows < ring.horizon() {
             return;

@@ -1,5 +1,5 @@
 // What a step asks of a rule.
-ghost use Rattle.std.specs.Prelude.{◌≡◌};
+ghost use Rattle.std.specs.Prelude.{◌≡◌, ◌%◌};
 ghost use Rattle.layout.specs.Shape.{shape};
 
 use rules::Rule;
@@ -9,4 +9,11 @@ pub(crate) fn ring_size(rule: &Rule) -> usize
     ensures { result ≡ (shape rule.now).ring }
 {
     rule.horizon() as usize + 1
+}
+
+// Where a row's margins stand in the rings.
+pub(crate) fn slot_of(rule: &Rule, row: u32) -> usize
+    ensures { result ≡ row % (shape rule.now).ring }
+{
+    row as usize % ring_size(rule)
 }

@@ -4,7 +4,7 @@ ghost use Rattle.layout.specs.Shape.{shape, need};
 ghost use Rattle.layout.specs.Slots.{RingOf};
 ghost use Rattle.layout.specs.Steps.{Back, Leaving};
 
-use crate::nodes::ring_size;
+use crate::nodes::{ring_size, slot_of};
 use rules::{Node, Rule};
 
 // The ring of an entry, in cells that are enough for the rule.
@@ -13,6 +13,10 @@ pub(crate) struct Ring<'a, M> {
     pub(crate) rule: &'a Rule,
     pub(crate) at: usize,
     pub(crate) cells: &'a [M],
+    // The latest row, and its place in every ring: a division for each place would take as long as all else.
+    pub(crate) latest: u32,
+    pub(crate) slot: usize,
+    ghost standing: { slot ≡ latest % (shape rule.now).ring },
     ghost below: { at < (shape rule.now).count },
     ghost enough: { need (shape rule.now) ≤ length cells.now },
 }
@@ -25,13 +29,23 @@ impl<'a, M: Copy> Ring<'a, M> {
         self.rule.horizon_at(self.at).unwrap()
     }
 
+    // Where a row's margins stand in every ring.
+    fn slot_at(&self, row: u32) -> usize
+        ensures { result ≡ row % (shape self.now.rule.now).ring }
+    {
+        if row == self.latest {
+            return self.slot;
+        }
+        slot_of(self.rule, row)
+    }
+
     // Where the margin stands that a row works out.
     pub(crate) fn place(&self, row: u32) -> usize
         ensures place { result ≡ self.now.at * (shape self.now.rule.now).ring + row % (shape self.now.rule.now).ring }
         ensures within { result < length self.now.cells.now }
     {
         let size = ring_size(self.rule);
-        self.at * size + row as usize % size
+        self.at * size + self.slot_at(row)
     }
 
     // The margin that a row worked out.
@@ -52,6 +66,8 @@ impl<'a, M: Copy> Ring<'a, M> {
             rule: self.rule,
             at: of,
             cells: self.cells,
+            latest: self.latest,
+            slot: self.slot,
         };
         let back = self.horizon() - ring.horizon();
         ring.back(row - back)

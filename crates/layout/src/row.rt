@@ -1,5 +1,5 @@
 // A row that a rule's entries take.
-ghost use Rattle.std.specs.Prelude.{◌≡◌, ◌+◌, ◌≤◌, length, is_some};
+ghost use Rattle.std.specs.Prelude.{◌≡◌, ◌+◌, ◌%◌, ◌≤◌, length, is_some};
 ghost use Rattle.std.specs.Option.{option_map};
 ghost use Rattle.std.specs.List.{All};
 ghost use Rattle.layout.specs.Shape.{shape, Seen};
@@ -18,6 +18,8 @@ pub(crate) struct Row<'a, S, R> {
     pub(crate) record: &'a R,
     pub(crate) poll: u32,
     pub(crate) rows: u32,
+    pub(crate) slot: usize,
+    ghost standing: { slot ≡ rows % (shape rule.now).ring },
 }
 
 impl<'a, S: Scale, R: Record<Reading = S::Reading>> Row<'a, S, R> {

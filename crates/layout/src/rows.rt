@@ -4,7 +4,7 @@ ghost use Rattle.layout.specs.Steps.{row_at};
 ghost use Rattle.layout.specs.Rows.{Advanced, has_latest, Latest};
 
 use crate::entry_step::EntryStep;
-use crate::nodes::ring_size;
+use crate::nodes::{ring_size, slot_of};
 use crate::rings::Ring;
 use crate::row::Row;
 use records::Record;
@@ -33,6 +33,7 @@ pub fn take_row<S: Scale, R: Record<Reading = S::Reading>>(
         record,
         poll,
         rows,
+        slot: slot_of(rule, rows),
     };
     let mut from = rule.len() * ring_size(rule);
     let mut leaving = None;
@@ -49,7 +50,14 @@ pub fn take_row<S: Scale, R: Record<Reading = S::Reading>>(
             from,
             to,
         };
-        let next = Ring { rule, at, cells }.leaving(rows);
+        let ring = Ring {
+            rule,
+            at,
+            cells,
+            latest: rows,
+            slot: row.slot,
+        };
+        let next = ring.leaving(rows);
         step.enter(leaving, cells);
         from = to;
         leaving = next;
@@ -69,6 +77,8 @@ pub fn latest_margin<M: Copy>(rule: &Rule, rows: u32, cells: &[M]) -> Option<M>
         rule,
         at: rule.len() - 1,
         cells,
+        latest: rows - 1,
+        slot: slot_of(rule, rows - 1),
     };
     Some(last.back(rows - 1))
 }

@@ -5,6 +5,7 @@
 use Rattle.std.specs.Prelude.{ℕ, zero, suc, Bool, true, false, cond, not, ◌&&◌, List, [], ◌∷◌, length, pos, Some, None, Ok, Err, Option, Result, ◌==◌, nat_le, slice_index_or}
 use Rattle.std.specs.Result.{result_unwrap_or}
 use Rattle.scales.specs.declared.limit.Sense.TheVariants.{AtLeast}
+pub use Rattle.faults.specs.Checks.{on}
 use Rattle.formulas.specs.Formula.{Formula, head_test, zone_test, complement, either, both, window, among, horizon}
 use Rattle.entries.specs.Decode.{operation_of}
 use Rattle.entries.specs.Operations.{OperationModel, HeadTest, ZoneTest, Not, Either, Both, Window}
@@ -69,10 +70,6 @@ inside n (Some h) r = Err (HeadOutsideZone n h)
 abbrev pub judged : List ℕ → Bool → ℕ → List Formula → Option OperationModel → Result (List Formula) RuleFault
 judged zone last n st None = Err (OutOfRange n)
 judged zone last n st (Some o) = inside n (outside zone o) (settled last n (built o st))
-
-abbrev pub on : {X Y : Type 0} → Result X RuleFault → (X → Result Y RuleFault) → Result Y RuleFault
-on (Ok x) f = f x
-on (Err e) f = Err e
 
 abbrev pub step : List ℕ → List Entry → ℕ → List Formula → Result (List Formula) RuleFault
 step zone es n st = judged zone (suc n == length es) n st (operation_of (slice_index_or es n blank) (length zone))

@@ -33,3 +33,7 @@ means r = (formula r, zone r)
 -- the row has these numbers of rule and zone
 abbrev pub Numbered : RulePlace → ℕ → ℕ → Type 0
 Numbered p r z = (p.rule_number ≡ r) × (p.zone_number ≡ z)
+
+-- the row holds the starting rule, under the numbers 0
+abbrev pub Fresh : RulePlace → Type 0
+Fresh p = (place_means p ≡ (starting, 0 ∷ [])) × Numbered p 0 0

@@ -1,11 +1,8 @@
 // Why a list of entries makes no rule.
-ghost use Rattle.std.specs.Prelude.{◌≡◌, Some};
+ghost use Rattle.std.specs.Prelude.{◌≡◌};
 ghost use Rattle.rules.specs.Faults.{at_entry, rule_ground};
-ghost use Rattle.rules.specs.Texts.{rule_fault_text};
 
-use crate::sizes::{ENTRIES, HORIZON, ZONE_HEADS};
 use faults::{Fault, Ground, Layer, Place};
-use std::fmt;
 
 // The first ground against a rule, with what a sentence about it needs.
 #[derive(Clone, Copy, PartialEq, Eq, Debug)]
@@ -48,52 +45,6 @@ impl Fault for RuleFault {
                 at_entry(4, entry)
             }
             RuleFault::HorizonTooFar { entry, .. } => at_entry(5, entry),
-        }
-    }
-}
-
-impl fmt::Display for RuleFault {
-    ghost output = { λ fault. Some (rule_fault_text fault) };
-
-    fn fmt<W: fmt::Write>(&self, f: &mut fmt::Formatter<W>) -> fmt::Result {
-        let ground = self.ground();
-        match *self {
-            RuleFault::EntryCount { count } => {
-                write!(
-                    f,
-                    "{ground}: {count} entries, where a rule has 1 to {ENTRIES}"
-                )
-            }
-            RuleFault::ZoneHeadCount { count } => {
-                write!(
-                    f,
-                    "{ground}: a zone of {count} heads, where a rule's has 1 to {ZONE_HEADS}"
-                )
-            }
-            RuleFault::OutOfRange { .. } => {
-                write!(
-                    f,
-                    "{ground}: its kind, or a field of its kind, is out of range"
-                )
-            }
-            RuleFault::HeadOutsideZone { head, .. } => {
-                write!(f, "{ground}: its head {head} is not in the zone")
-            }
-            RuleFault::TooFewFormulas { .. } => {
-                write!(f, "{ground}: it takes more formulas than are left")
-            }
-            RuleFault::TooManyFormulas { .. } => {
-                write!(
-                    f,
-                    "{ground}: it is the last and leaves more than one formula"
-                )
-            }
-            RuleFault::HorizonTooFar { horizon, .. } => {
-                write!(
-                    f,
-                    "{ground}: it looks {horizon} polls ahead, where a rule looks at most {HORIZON}"
-                )
-            }
         }
     }
 }

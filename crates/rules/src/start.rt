@@ -1,7 +1,7 @@
 // The starting rule, and the rules of places.
 ghost use Rattle.std.specs.Prelude.{◌≡◌, [], ◌∷◌};
 ghost use Rattle.rules.specs.Assemble.{starting as starting_formula};
-ghost use Rattle.rules.specs.Places.{means, place_means, Numbered};
+ghost use Rattle.rules.specs.Places.{means, place_means, Fresh, Numbered};
 
 use crate::place::RulePlace;
 use crate::rule::Rule;
@@ -60,5 +60,13 @@ impl RulePlace {
     {
         let entries = self.entries.get(..self.count as usize).unwrap_or(&[]);
         Rule::new(entries, self.zone).unwrap_or_else(|_| Rule::starting())
+    }
+}
+
+impl Default for RulePlace {
+    ghost is_default = { Fresh };
+
+    fn default() -> RulePlace {
+        RulePlace::fresh()
     }
 }

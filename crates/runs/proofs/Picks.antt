@@ -1,9 +1,10 @@
 -- The K-th place of a stretch that lies highest first is its K-th highest, and the first that passes is the same by margins. Assumes nothing.
-use Rattle.std.proofs.Common.{◌≡◌, ℕ, zero, suc, ◌+◌, ◌-◌, ◌≤◌, Bool, Some, None, Option, List, [], ◌∷◌, map, length, get_or, ℤ, pos, count_by, find, option_map, option_copied, slice_get, sym, refl, ap, ◌∙◌, inl, inr, ⊎_elim, arith}
+use Rattle.std.proofs.Common.{◌≡◌, ℕ, zero, suc, ◌+◌, ◌-◌, ◌≤◌, take, drop, Bool, cond, Some, None, Option, List, [], ◌∷◌, map, length, get_or, ℤ, pos, count_by, find, option_map, option_copied, slice_get, sym, refl, ap, ◌∙◌, inl, inr, ⊎_elim, arith}
 use Rattle.std.specs.Borrow.{Bor}
 use Rattle.std.specs.Slice.{IsItemAt}
 use Rattle.std.proofs.lemmas.Bool.{cases_Bool, cases_lt}
-use Rattle.std.proofs.lemmas.List.Sums.{sum_by-cons}
+use Rattle.std.proofs.lemmas.List.{length-take, length-drop, take_all}
+use Rattle.std.proofs.lemmas.List.Sums.{sum_by-cons, sum_by-take-drop}
 use Rattle.std.proofs.lemmas.Option.{slice_get-map, slice_get-get_or, slice_get_past}
 use Rattle.runs.specs.Highest.{hit, highest, tally}
 use Rattle.runs.specs.Order.{Descending}
@@ -49,3 +50,13 @@ module _ {M : Type 0} (whole : M → ℤ) where
   pub found : (p : ℤ → Bool) (ms : List M) → option_map whole (find (λ x. p (whole x)) ms) ≡ find p (map whole ms)
   found p [] = refl
   found p (x ∷ ms) = ⊎_elim (λ e. rw e refl) (λ e. rw e (found p ms)) (cases_Bool (p (whole x)))
+
+-- a count of a front and one of the rest
+pub front_and_rest : {M : Type 0} (p : M → Bool) (xs : List M) (f i j few n : ℕ) → f ≤ length xs → f ≤ i → length xs - f ≤ j → few ≡ count_by p (take i (take f xs)) → n ≡ few + count_by p (take j (take (length xs - f) (drop f xs))) → n ≡ count_by p xs
+front_and_rest p xs f i j few n within past all one two =
+    let front : take i (take f xs) ≡ take f xs = take_all i (take f xs) (omega (arith, length-take f xs)) in
+    let rest : take j (take (length xs - f) (drop f xs)) ≡ drop f xs
+    = take_all j (take (length xs - f) (drop f xs)) (omega (arith, length-take (length xs - f) (drop f xs))) ∙ take_all (length xs - f) (drop f xs) (omega (arith, length-drop f xs)) in
+    let a : few ≡ count_by p (take f xs) = one ∙ ap (count_by p) front in
+    let b : n ≡ few + count_by p (drop f xs) = two ∙ ap (λ ys. few + count_by p ys) rest in
+    omega (arith, a, b, sum_by-take-drop (λ x. cond (p x) 1 0) xs f)

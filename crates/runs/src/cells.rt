@@ -32,7 +32,7 @@ fn start<S: Scale>(scale: &S, margins: &[S::Margin], width: usize, m: S::Margin)
 // How many of the margins, which lie highest first, are above m. It goes by powers of two, with no branch on a margin:
 // `partition_point`, which branches on each, makes a step of a window half as long again.
 #[tactic(auto, using(crate::proofs::Powers::pow_step))]
-pub fn place<S: Scale>(scale: &S, margins: &[S::Margin], m: S::Margin) -> usize
+pub(crate) fn place<S: Scale>(scale: &S, margins: &[S::Margin], m: S::Margin) -> usize
     ensures within { result ≤ length margins.now }
     ensures counts { Descending (map (S.Scale.model scale.now).whole margins.now) → result ≡ above ((S.Scale.model scale.now).whole m) (map (S.Scale.model scale.now).whole margins.now) }
 {
@@ -49,7 +49,7 @@ pub fn place<S: Scale>(scale: &S, margins: &[S::Margin], m: S::Margin) -> usize
 }
 
 // Puts m at a place, and moves the cells from there on up by one; the last one goes.
-pub fn insert_at<M: Copy>(cells: &mut [M], at: usize, m: M)
+pub(crate) fn insert_at<M: Copy>(cells: &mut [M], at: usize, m: M)
     requires { at < length cells.old }
     ensures { cells.new ≡ insert (take (length cells.old - 1) cells.old) at m }
 {
@@ -58,7 +58,7 @@ pub fn insert_at<M: Copy>(cells: &mut [M], at: usize, m: M)
 }
 
 // Moves the cells behind a place down by one, and what stood there to the end.
-pub fn remove_at<M: Copy>(cells: &mut [M], at: usize)
+pub(crate) fn remove_at<M: Copy>(cells: &mut [M], at: usize)
     requires { at < length cells.old }
     ensures { cells.new ≡ remove cells.old at ++ take 1 (drop at cells.old) }
 {
@@ -66,7 +66,7 @@ pub fn remove_at<M: Copy>(cells: &mut [M], at: usize)
 }
 
 // The place of a margin of m's whole number; none where none is to be taken out.
-pub fn find<S: Scale>(scale: &S, margins: &[S::Margin], m: S::Margin) -> Option<usize>
+pub(crate) fn find<S: Scale>(scale: &S, margins: &[S::Margin], m: S::Margin) -> Option<usize>
     ensures { MatchOption result (Absent (S.Scale.model scale.now).whole margins.now m) (FoundAt (S.Scale.model scale.now).whole margins.now m) }
 {
     let at = place(scale, margins, m);
@@ -75,7 +75,7 @@ pub fn find<S: Scale>(scale: &S, margins: &[S::Margin], m: S::Margin) -> Option<
 }
 
 // Takes the cell at gone out and puts m in before the cell at at: only the cells between the two places move.
-pub fn replace_at<M: Copy>(cells: &mut [M], gone: usize, at: usize, m: M)
+pub(crate) fn replace_at<M: Copy>(cells: &mut [M], gone: usize, at: usize, m: M)
     requires { (gone < length cells.old) × (at ≤ length cells.old) }
     ensures up { at ≤ gone → cells.new ≡ insert (remove cells.old gone) at m }
     ensures down { gone < at → cells.new ≡ insert (remove cells.old gone) (at - 1) m }

@@ -1,6 +1,11 @@
 // Why the program stops short.
+use crate::files::Trouble;
+use desk::Trouble as DeskTrouble;
+use records::LogFault;
 use rules::RuleFault;
+use sheets::SheetFault;
 use std::io;
+use texts::ReadError;
 use thiserror::Error;
 use watches::WatchFault;
 
@@ -12,6 +17,26 @@ pub enum Failure {
     // A call of a watch, or a survey, is refused.
     #[error(transparent)]
     Watch(#[from] WatchFault),
+    // A sheet is refused.
+    #[error(transparent)]
+    Sheet(#[from] SheetFault),
+    // A file of readings cannot be read as a text.
+    #[error(transparent)]
+    Text(#[from] ReadError),
+    // A log's entries are refused.
+    #[error(transparent)]
+    Log(#[from] LogFault),
+    // A row of the soak is refused, or the work cannot be done.
+    #[error(transparent)]
+    Desk(#[from] DeskTrouble),
+    #[error("the readings are of {heads} heads, and the sheet's card has {card}")]
+    OtherCard { heads: u32, card: u32 },
+    #[error("the sheet has no rule {number}")]
+    NoRule { number: u16 },
+    #[error("{path}: {trouble}")]
+    File { path: String, trouble: Trouble },
+    #[error("the words are none that the program knows")]
+    Words,
     #[error("a limit is out of range")]
     Limit,
     #[error("a zone names a head that there is not")]

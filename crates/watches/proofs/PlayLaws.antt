@@ -23,7 +23,7 @@ along {a' = a'} {b = b} P p q x = subst (λ y. P a' y) q (subst (λ y. P y b) p 
 
 -- ---- the first refusal, and the polls before it
 module _ {Reading Margin : Type 0} (sm : ScaleModel Reading Margin) (rule : Rule) (rm : RecordModel Reading) (lent k t : ℕ) where
-  no_polls : play_fault sm rule rm lent k t 0 ≡ None
+  pub no_polls : play_fault sm rule rm lent k t 0 ≡ None
   unfolding play_fault
   no_polls = refl
 
@@ -31,21 +31,21 @@ module _ {Reading Margin : Type 0} (sm : ScaleModel Reading Margin) (rule : Rule
   unfolding play_fault
   next n = let e : n + 1 ≡ suc n = omega arith in ap (play_fault sm rule rm lent k t) e
 
-  here : (n : ℕ) → play_fault sm rule rm lent k t n ≡ None → play_fault sm rule rm lent k t (n + 1) ≡ refusal sm rule rm (t + n) lent (k + n)
+  pub here : (n : ℕ) → play_fault sm rule rm lent k t n ≡ None → play_fault sm rule rm lent k t (n + 1) ≡ refusal sm rule rm (t + n) lent (k + n)
   here n none = next n ∙ ap (λ o. option_or o (refusal sm rule rm (t + n) lent (k + n))) none
 
-  stays : (e : WatchFault) (n j : ℕ) → play_fault sm rule rm lent k t n ≡ Some e → play_fault sm rule rm lent k t (j + n) ≡ Some e
+  pub stays : (e : WatchFault) (n j : ℕ) → play_fault sm rule rm lent k t n ≡ Some e → play_fault sm rule rm lent k t (j + n) ≡ Some e
   stays e n zero h = let z : 0 + n ≡ n = omega arith in ap (play_fault sm rule rm lent k t) z ∙ h
   stays e n (suc j) h =
       let z : suc j + n ≡ (j + n) + 1 = omega arith in
       ap (play_fault sm rule rm lent k t) z ∙ next (j + n) ∙ ap (λ o. option_or o (refusal sm rule rm (t + (j + n)) lent (k + (j + n)))) (stays e n j h)
 
-  all_taken : (n : ℕ) → play_fault sm rule rm lent k t n ≡ None → play_rows sm rule rm lent k t n ≡ n
+  pub all_taken : (n : ℕ) → play_fault sm rule rm lent k t n ≡ None → play_rows sm rule rm lent k t n ≡ n
   unfolding play_rows
   all_taken zero none = refl
   all_taken (suc n) none = ap (λ o. unless o (suc n) (play_rows sm rule rm lent k t n)) none
 
-  taken_before : (e : WatchFault) (n j : ℕ) → play_fault sm rule rm lent k t n ≡ None → play_fault sm rule rm lent k t (n + 1) ≡ Some e → play_rows sm rule rm lent k t (suc j + n) ≡ n
+  pub taken_before : (e : WatchFault) (n j : ℕ) → play_fault sm rule rm lent k t n ≡ None → play_fault sm rule rm lent k t (n + 1) ≡ Some e → play_rows sm rule rm lent k t (suc j + n) ≡ n
   unfolding play_rows
   taken_before e n zero none some =
       let z : suc 0 + n ≡ suc n = omega arith in

@@ -14,8 +14,8 @@ overflow_add-to g c =
     let node = node_there r c.loop-at.at c.node.result c.unwrap-node.result c.unwrap-node.ensures c.node.ensures.value (omega arith) in
     omega (arith, next_fits (shape r) _ c.loop-at.at (ready r _ (length c.args.cells.now) c.need.ensures (omega arith)) (omega arith), c.width.ensures.value ∙ ap run_width node, c.loop-at.invariant.place)
 
-pub invariant_of-leaving : goal.invariant_of-leaving
-invariant_of-leaving g c = record { below = omega arith; enough = omega (arith, (ready c.args.rule.now _ (length c.args.cells.now) c.need.ensures (omega arith)).enough, c.loop-at.invariant.long) }
+pub invariant_of-ring : goal.invariant_of-ring
+invariant_of-ring g c = record { standing = c.slot_of.ensures; below = omega arith; enough = omega (arith, (ready c.args.rule.now _ (length c.args.cells.now) c.need.ensures (omega arith)).enough, c.loop-at.invariant.long) }
 
 pub loop-at-preserved : goal.loop-at-preserved
 loop-at-preserved g c =

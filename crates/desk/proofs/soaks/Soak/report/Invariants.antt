@@ -1,0 +1,7 @@
+use Rattle.std.proofs.Common.{◌≡◌, drop}
+use Rattle.desk.specs.Rows.{sheet_fault}
+use Rattle.desk.proofs.soaks.Soak.report.Given as goal
+
+abbrev pub invariant-loop-place : goal.invariant-loop-place
+invariant-loop-place g l =
+    sheet_fault (g.S.Scale.model l.self.scale) l.places (g.R.Record.model l.self.«record».now) ≡ sheet_fault (g.S.Scale.model l.self.scale) (drop l.place-index l.places) (g.R.Record.model l.self.«record».now)

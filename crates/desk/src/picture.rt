@@ -1,0 +1,95 @@
+// Where a picture has its polls and margins.
+ghost use Rattle.std.specs.Prelude.{◌<◌};
+
+use crate::amount::Unit;
+
+// The size of the picture, and of the margins around what is drawn.
+pub(crate) const WIDTH: u64 = 1000;
+
+pub(crate) const HEIGHT: u64 = 480;
+
+pub(crate) const LEFT: u64 = 100;
+
+pub(crate) const HEADING: u64 = 52;
+
+pub(crate) const TOP: u64 = 70;
+
+pub(crate) const RIGHT: u64 = 970;
+
+pub(crate) const BOTTOM: u64 = 420;
+
+// The most columns that are drawn.
+pub(crate) const COLUMNS: u32 = 870;
+
+// About so many ticks are on an axis.
+const TICKS: u64 = 7;
+
+// Steps between ticks that read well.
+const ROUND: [u32; 21] = [
+    1, 2, 5, 10, 20, 50, 100, 200, 500, 1_000, 2_000, 5_000, 10_000, 20_000, 50_000, 100_000,
+    200_000, 500_000, 1_000_000, 2_000_000, 5_000_000,
+];
+
+// The same in 256ths: powers of two, whose decimals are short.
+const HALVED: [u32; 21] = [
+    1, 2, 4, 8, 16, 32, 64, 128, 256, 512, 1_024, 2_048, 4_096, 8_192, 16_384, 32_768, 65_536,
+    131_072, 262_144, 524_288, 1_048_576,
+];
+
+// The least of the steps with few enough ticks over a span.
+fn step_of(steps: &[u32], span: u64) -> u32
+    ensures { 0 < result }
+{
+    for step in steps {
+        if span <= *step as u64 * TICKS {
+            return (*step).max(1);
+        }
+    }
+    u32::MAX
+}
+
+// How far apart the ticks of so many polls are.
+pub(crate) fn poll_step(polls: u32) -> u32
+    ensures { 0 < result }
+{
+    step_of(&ROUND, polls as u64)
+}
+
+// What the picture shows: so many polls, and margins so far above and below nought.
+#[derive(Clone, Copy)]
+pub(crate) struct Frame {
+    pub polls: u32,
+    pub above: u32,
+    pub below: u32,
+}
+
+impl Frame {
+    // Where a poll stands from the left.
+    pub(crate) fn x(&self, poll: u32) -> u64 {
+        let last = self.polls.saturating_sub(1).max(1) as u64;
+        LEFT + poll as u64 * (RIGHT - LEFT) / last
+    }
+
+    // How many steps the picture is high.
+    fn span(&self) -> u64
+        ensures { 0 < result }
+    {
+        (self.above as u64 + self.below as u64).max(1)
+    }
+
+    // Where a margin of so many steps stands from the top.
+    pub(crate) fn y(&self, steps: i32) -> u64 {
+        let down = (self.above as i64 - steps as i64).max(0) as u64;
+        TOP + down * (BOTTOM - TOP) / self.span()
+    }
+
+    // How far apart the ticks of the margins are, in steps.
+    pub(crate) fn margin_step(&self, unit: Unit) -> u32
+        ensures { 0 < result }
+    {
+        match unit {
+            Unit::Count => step_of(&ROUND, self.span()),
+            Unit::PercentPerMetre => step_of(&HALVED, self.span()),
+        }
+    }
+}

@@ -1,0 +1,11 @@
+-- The float of a whole number of 256ths. Assumes nothing.
+use Rattle.std.proofs.Common.{◌≡◌, ℤ, ◌≤◌, T, nat_abs, unsigned_abs, ap, arith, lit≤}
+use lib.Ieee.{Float, binary32, div, of_int}
+use Rattle.scales.specs.Grid.{on_grid, grid_whole}
+use Rattle.scales.proofs.GridValues.{scale, grid_value, size_signed, over_256}
+
+pub near : (x : Float) → T (on_grid 2097152 x) → unsigned_abs (grid_whole x) ≤ 2097152
+near x h = let v = grid_value 2097152 x h in omega (arith, v.small, ap nat_abs v.is, size_signed v.sign v.size)
+
+pub float_is : (z : ℤ) → nat_abs z ≤ 2097152 → grid_whole (div binary32 (of_int binary32 z) scale) ≡ z
+float_is z h = (over_256 2097152 (lit≤ tt) z h).1

@@ -1,0 +1,6 @@
+mod Floats
+mod Grids
+mod InCells
+mod Latest
+mod Lists
+mod Playing

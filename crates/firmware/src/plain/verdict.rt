@@ -1,0 +1,23 @@
+// Verdicts are told as 1 for yes and -1 for no.
+ghost use Rattle.std.specs.Prelude.{ℤ};
+
+use crate::cells::in_range;
+use crate::plain::Plain;
+use scales::{Scale, Verdict, VerdictMargin};
+
+impl<S: Scale + Copy> Plain for Verdict<S> {
+    type Told = i32;
+
+    ghost told = { λ (z : ℤ). z };
+
+    fn whole(&self, margin: VerdictMargin) -> i32 {
+        match margin {
+            VerdictMargin::Yes => 1,
+            VerdictMargin::No => -1,
+        }
+    }
+
+    fn tell(cell: i32) -> i32 {
+        in_range(cell)
+    }
+}

@@ -1,0 +1,24 @@
+-- The lemmas of sheets. Assumes nothing.
+pub mod Chains
+pub mod ToEndLoop
+pub mod Drafting
+pub mod Numbers
+pub mod RuleReading
+pub mod Records
+pub mod FormulasBuilt
+pub mod FormulasSpelled
+pub mod FormulasRead
+pub mod RuleFormulas
+pub mod Accepted
+pub mod Counts
+pub mod ToEnd
+pub mod ReadsRules
+pub mod ZonesFit
+pub mod ReadsZones
+pub mod ReadsGroups
+pub mod ReadsSheet
+pub mod ZoneHeads
+pub mod Opening
+pub mod Filling
+pub mod WholeSheet
+pub mod Placing

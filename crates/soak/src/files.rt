@@ -1,0 +1,57 @@
+// Reading the files that the commissioner names.
+use crate::failure::Failure;
+use std::alloc::Global;
+use std::fs::{self, File};
+use std::io::{self, ErrorKind, Read};
+use thiserror::Error;
+
+// Why a file gives no bytes. The system's own words are not kept: to print them, one more function of the C library would
+// be trusted.
+#[derive(Clone, Copy, Debug, Error)]
+pub enum Trouble {
+    #[error("there is no such file")]
+    Missing,
+    #[error("it is a directory")]
+    Directory,
+    #[error("it may not be read")]
+    Forbidden,
+    #[error("it cannot be read")]
+    Unreadable,
+    #[error("it cannot be written")]
+    Unwritable,
+}
+
+impl From<io::Error> for Trouble {
+    fn from(error: io::Error) -> Trouble {
+        match error.kind() {
+            ErrorKind::NotFound => Trouble::Missing,
+            ErrorKind::IsADirectory => Trouble::Directory,
+            ErrorKind::PermissionDenied => Trouble::Forbidden,
+            _ => Trouble::Unreadable,
+        }
+    }
+}
+
+// What is wrong with the file of this path.
+fn fault(rt: &HostRuntime, path: &str, trouble: Trouble) -> Failure {
+    match String::from_str(rt.alloc(), path) {
+        Ok(path) => Failure::File { path, trouble },
+        Err(_) => Failure::Memory,
+    }
+}
+
+// The first bytes of a file, at most so many.
+pub fn read(rt: &HostRuntime, path: &str, most: u64) -> Result<Vec<u8>, Failure> {
+    front(rt, path, most).map_err(|trouble| fault(rt, path, trouble))
+}
+
+// A text into a file, in the place of what it held.
+pub fn write(rt: &HostRuntime, path: &str, text: &str) -> Result<(), Failure> {
+    fs::write(rt, path, text).map_err(|_| fault(rt, path, Trouble::Unwritable))
+}
+
+fn front(rt: &HostRuntime, path: &str, most: u64) -> Result<Vec<u8>, Trouble> {
+    let mut bytes = Vec::new(rt.alloc());
+    File::open(rt, path)?.take(most).read_to_end(&mut bytes)?;
+    Ok(bytes)
+}

@@ -1,7 +1,7 @@
 -- The two watches of a rule, for its margins and for its verdicts. Assumes nothing.
 --     FollowsBoth   both have followed the record so far
 --     heard_after   the answer that they have together
---     TakesBoth     one poll more
+--     BothTaken     one poll more
 use Rattle.std.specs.Prelude.{◌≡◌, ℕ, ◌+◌, ◌-◌, cond, List, ℤ, pos, Some, None, Option, Result, IfOk, OnOk, int_le, nat_le}
 use Rattle.formulas.specs.Formula.{horizon}
 use Rattle.records.specs.Model.{RecordModel}

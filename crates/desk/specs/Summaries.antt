@@ -14,7 +14,7 @@ abbrev pub yes_of : (ℕ → Answered) → ℕ → ℕ
 yes_of answers zero = 0
 yes_of answers (suc n) = yes_of answers n + cond (answers n).yes 1 0
 
--- the size of the margin at a poll: how many steps readings may drift
+-- the size of the margin at a poll
 abbrev pub size_at : (ℕ → Answered) → ℕ → ℕ
 size_at answers t = unsigned_abs (answers t).margin
 

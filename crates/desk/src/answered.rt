@@ -25,6 +25,11 @@ impl Answered {
     }
 }
 
+// The word for a verdict.
+pub(crate) fn verdict_word(yes: bool) -> &'static str {
+    if yes { "yes" } else { "no" }
+}
+
 // Who hears the answers of a rule, one after another.
 pub trait Listener {
     // It has heard the first so many of the answers that a function gives by their polls.

@@ -3,7 +3,7 @@ ghost use Rattle.desk.specs.Rows.{place_fault};
 ghost use Rattle.desk.specs.Told.{TellsFirst};
 
 use crate::amount::{Amount, Unit};
-use crate::answered::{Answered, Listener};
+use crate::answered::{Answered, Listener, verdict_word};
 use crate::measured::Measured;
 use crate::progress::Progress;
 use crate::soaks::Soak;
@@ -40,7 +40,7 @@ impl<'w, W: fmt::Write> Listener for Lines<'w, W> {
             steps: margin,
             unit: self.unit,
         };
-        let verdict = if yes { "yes" } else { "no" };
+        let verdict = verdict_word(yes);
         writeln!(self.out, "{poll},{amount},{verdict}")?;
         Ok(())
     }

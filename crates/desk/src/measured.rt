@@ -1,4 +1,4 @@
-// The scales whose margins a report tells: by how many steps readings may drift.
+// The scales whose margins a report tells in a unit.
 ghost use Rattle.std.specs.Prelude.{◌≡◌, pos};
 ghost use Rattle.desk.specs.declared.amount.Unit.{Unit};
 ghost use Rattle.desk.specs.declared.amount.Unit.TheVariants.{Count, PercentPerMetre};
@@ -25,14 +25,11 @@ pub trait Measured: Scale {
         ensures { (Self.model self.now).whole result ≡ pos 0 };
 }
 
-// A reading at the limit of nought.
-const AT_NOUGHT: Sense = Sense::AtLeast;
-
 fn nought_test() -> Test
     ensures { result.limit.value ≡ pos 0 }
 {
     Test {
-        sense: AT_NOUGHT,
+        sense: Sense::AtLeast,
         limit: Limit::new(0).unwrap(),
     }
 }

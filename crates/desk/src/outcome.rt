@@ -24,8 +24,7 @@ pub struct Summary {
     pub yes: u32,
     // The latest of them.
     pub latest: Answered,
-    // The one whose margin is smallest in size, the earliest among equals: by that much readings may drift before a verdict
-    // can turn.
+    // The one whose margin is smallest in size, the earliest among equals.
     pub nearest: Answered,
 }
 

@@ -64,10 +64,10 @@ pub(crate) struct Frame {
 }
 
 impl Frame {
-    // Where a poll stands from the left.
+    // Where a poll stands from the left; one past the last stands where the last does.
     pub(crate) fn x(&self, poll: u32) -> u64 {
-        let last = self.polls.saturating_sub(1).max(1) as u64;
-        LEFT + poll as u64 * (RIGHT - LEFT) / last
+        let last = self.polls.saturating_sub(1).max(1);
+        LEFT + poll.min(last) as u64 * (RIGHT - LEFT) / last as u64
     }
 
     // How many steps the picture is high.

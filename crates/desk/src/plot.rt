@@ -3,7 +3,7 @@ ghost use Rattle.desk.specs.Rows.{place_fault};
 ghost use Rattle.desk.specs.Told.{TellsFirst};
 
 use crate::amount::Amount;
-use crate::answered::{Answered, Listener};
+use crate::answered::{Answered, Listener, verdict_word};
 use crate::columns::{Column, Columns};
 use crate::measured::Measured;
 use crate::outcome::{Outcome, Summary, Tally};
@@ -130,7 +130,9 @@ impl<'a, S: Measured + Copy, R: Record<Reading = S::Reading>> Soak<'a, S, R> {
         let x = frame.x(nearest.poll);
         let y = frame.y(nearest.margin);
         let margin = self.amount(nearest.margin);
-        let poll = nearest.poll;
+        let unit = self.scale.unit();
+        let Answered { poll, yes, .. } = nearest;
+        let verdict = verdict_word(yes);
         writeln!(
             out,
             "<circle cx=\"{x}\" cy=\"{y}\" r=\"5\" fill=\"none\" stroke=\"#c00\" stroke-width=\"2\"/>"
@@ -141,7 +143,7 @@ impl<'a, S: Measured + Copy, R: Record<Reading = S::Reading>> Soak<'a, S, R> {
         )?;
         writeln!(
             out,
-            "<text x=\"{LEFT}\" y=\"{HEADING}\" fill=\"#c00\">nearest to tripping: {margin} at poll {poll}</text>"
+            "<text x=\"{LEFT}\" y=\"{HEADING}\" fill=\"#c00\">nearest to tripping: {margin} {unit} at poll {poll}, verdict {verdict}</text>"
         )?;
         Ok(())
     }
@@ -198,7 +200,10 @@ impl<'a, S: Measured + Copy, R: Record<Reading = S::Reading>> Soak<'a, S, R> {
         progress.begin(place.rule_number);
         let mut sketch = Sketch {
             tally: Tally { summary: None },
-            columns: Columns::over(self.heap, self.record.polls()),
+            columns: Columns::over(
+                self.heap,
+                self.record.polls().saturating_sub(rule.horizon()),
+            ),
         };
         self.follow(&rule, &mut sketch, progress)?;
         writeln!(

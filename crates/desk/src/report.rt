@@ -4,7 +4,7 @@ ghost use Rattle.desk.specs.Rows.{IsRow, place_fault, sheet_fault, smaller_of};
 ghost use Rattle.desk.specs.Told.{IsOutside, TellsFirst};
 
 use crate::amount::Amount;
-use crate::answered::Answered;
+use crate::answered::{Answered, verdict_word};
 use crate::measured::Measured;
 use crate::outcome::{Outcome, Summary};
 use crate::progress::Progress;
@@ -50,7 +50,7 @@ fn smaller(smallest: Option<Smallest>, row: &RuleRow) -> Option<Smallest>
 
 // The names of the columns, over the rows of `write_row`.
 const COLUMNS: &str =
-    " rule  zone  horizon  answered       yes    latest  verdict         margin   nearest         margin";
+    " rule  zone  horizon  answered       yes    latest  verdict         margin   nearest  verdict         margin";
 
 impl<'a, S: Measured + Copy, R: Record<Reading = S::Reading>> Soak<'a, S, R> {
     // What the report tells of a rule.
@@ -86,12 +86,13 @@ impl<'a, S: Measured + Copy, R: Record<Reading = S::Reading>> Soak<'a, S, R> {
             latest,
             nearest,
         } = *summary;
-        let verdict = if latest.yes { "yes" } else { "no" };
+        let verdict = verdict_word(latest.yes);
+        let there = verdict_word(nearest.yes);
         let margin = self.amount(latest.margin).to_string(self.heap)?;
         let least = self.amount(nearest.margin).to_string(self.heap)?;
         write!(
             out,
-            "{polls:>10}{yes:>10}{:>10}{verdict:>9}{margin:>15}{:>10}{least:>15}",
+            "{polls:>10}{yes:>10}{:>10}{verdict:>9}{margin:>15}{:>10}{there:>9}{least:>15}",
             latest.poll, nearest.poll
         )?;
         Ok(())
@@ -135,9 +136,10 @@ impl<'a, S: Measured + Copy, R: Record<Reading = S::Reading>> Soak<'a, S, R> {
         };
         let margin = self.amount(answered.margin);
         let unit = self.scale.unit();
+        let verdict = verdict_word(answered.yes);
         writeln!(
             out,
-            "Smallest margin of the sheet: {margin} {unit}, rule {rule_number} at poll {}.",
+            "Smallest margin of the sheet: {margin} {unit}, rule {rule_number} at poll {}, verdict {verdict}.",
             answered.poll
         )?;
         Ok(())

@@ -30,11 +30,11 @@ fn window(last: u16) -> Option<Rule> {
 
 const REPORT: &str = "Margins in counts over a soak of 8 polls.
 
- rule  zone  horizon  answered       yes    latest  verdict         margin   nearest         margin
-    6     7        3         5         5         4      yes              2         3              0
+ rule  zone  horizon  answered       yes    latest  verdict         margin   nearest  verdict         margin
+    6     7        3         5         5         4      yes              2         3      yes              0
    12     7       20  waiting: 13 rows to come
 
-Smallest margin of the sheet: 0 counts, rule 6 at poll 3.
+Smallest margin of the sheet: 0 counts, rule 6 at poll 3, verdict yes.
 ";
 
 const TABLE: &str = "poll,margin,verdict
@@ -64,7 +64,7 @@ fn a_small_soak(rt: HostRuntime) -> Result<(), Fail> {
     let mut picture = String::new(rt.alloc());
     soak.plot(&place, &mut picture, &mut Quiet)?;
     assert!(rt; picture.contains("L535 70L752 420L970 70"));
-    assert!(rt; picture.contains(">nearest to tripping: 0 at poll 3</text>"));
+    assert!(rt; picture.contains(">nearest to tripping: 0 counts at poll 3, verdict yes</text>"));
     Ok(())
 }
 

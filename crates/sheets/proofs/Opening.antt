@@ -7,10 +7,10 @@ use Rattle.std.proofs.lemmas.List.Folds.{list_any-append}
 use Rattle.formulas.specs.Formula.{among}
 use Rattle.entries.specs.Heads.{heads, SameHeads}
 use Rattle.entries.proofs.Listing.{among-append}
-use Rattle.sheets.specs.Layout.{StretchModel, PieceModel, word_at, byte_at, of_kind, fields}
+use Rattle.sheets.specs.Layout.{StretchModel, PieceModel, word_at, byte_at, of_kind, fields, counted}
 use Rattle.sheets.specs.Loading.{line, zone_lines}
 use Rattle.sheets.specs.Outlines.{SheetZone, SheetGroup}
-use Rattle.sheets.specs.Parts.{counted, head_count, zone_heads, zone_number, opened_zone, name, group_room, opened_group}
+use Rattle.sheets.specs.Parts.{head_count, zone_heads, zone_number, opened_zone, name, group_room, opened_group}
 use Rattle.sheets.specs.Standing.{Stands}
 use Rattle.sheets.specs.declared.reader.Reader.{Reader}
 use Rattle.sheets.proofs.Records.{kind_good}

@@ -8,9 +8,9 @@ use Rattle.std.proofs.lemmas.List.Concat.{flat_map-append}
 use Rattle.std.specs.List.{AllByRecursion, flat_map}
 use Rattle.rules.proofs.Grounds.{fair_true}
 use Rattle.sheets.specs.Lawful.{LawfulZone, LawfulGroup, NameByte}
-use Rattle.sheets.specs.Layout.{StretchModel, PieceModel, byte_at, split, fields}
+use Rattle.sheets.specs.Layout.{StretchModel, PieceModel, byte_at, split, fields, counted}
 use Rattle.sheets.specs.Outlines.{Outline, SheetGroup, SheetZone, zones_of}
-use Rattle.sheets.specs.Parts.{zone, group, opened_group, counted, name, name_bytes, group_room, to_end}
+use Rattle.sheets.specs.Parts.{zone, group, opened_group, name, name_bytes, group_room, to_end}
 use Rattle.sheets.specs.Spelling.{record_bytes, zone_bytes, group_bytes}
 use Rattle.sheets.proofs.Accepted.{same_pair, passes, fair_good}
 use Rattle.sheets.proofs.Counts.{all_front, all_behind}

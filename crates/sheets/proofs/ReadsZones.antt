@@ -3,9 +3,9 @@ use Rattle.std.proofs.Common.{◌≡◌, ℕ, ◌+◌, ◌<◌, ◌≤◌, false
 use Rattle.std.proofs.lemmas.Bool.{cond-true, cond-false, lt-ltb, ltb-true}
 use Rattle.std.specs.List.{list_any, flat_map}
 use Rattle.rules.proofs.Grounds.{fair_true}
-use Rattle.sheets.specs.Layout.{StretchModel, PieceModel, word_at, byte_at, split, fields}
+use Rattle.sheets.specs.Layout.{StretchModel, PieceModel, word_at, byte_at, split, fields, counted}
 use Rattle.sheets.specs.Outlines.{SheetZone, SheetGroup}
-use Rattle.sheets.specs.Parts.{rule, zone, opened_zone, counted, head_count, zone_heads, zone_number, to_end}
+use Rattle.sheets.specs.Parts.{rule, zone, opened_zone, head_count, zone_heads, zone_number, to_end}
 use Rattle.sheets.specs.Spelling.{word, record_bytes, rule_bytes, zone_bytes}
 use Rattle.sheets.proofs.Accepted.{same_pair, stays, fair_good}
 use Rattle.sheets.proofs.Records.{Bytes, split_spelled, split_reads, word_small, word_spelled, word_reads, fields_spelled, fields_reads, counted_spelled, counted_reads}

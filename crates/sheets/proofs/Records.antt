@@ -6,8 +6,7 @@ use Rattle.std.proofs.lemmas.Nat.{le_bytes_2, le_bytes_4, from_le_bytes-to_le_by
 use Rattle.std.proofs.Math.Facts.{Fits-of_z}
 use Rattle.std.proofs.lemmas.Int.{of_z-to_z, to_z-of_z}
 use Rattle.std.specs.Int.{w16, w32, from_le_bytes, to_le_bytes, cast_signed, cast_unsigned}
-use Rattle.sheets.specs.Layout.{StretchModel, PieceModel, word_at, limit_at, behind, first_piece, split, of_kind, fields, ended}
-use Rattle.sheets.specs.Parts.{counted}
+use Rattle.sheets.specs.Layout.{StretchModel, PieceModel, word_at, limit_at, behind, first_piece, split, of_kind, fields, ended, counted}
 use Rattle.sheets.specs.Spelling.{word, limit_bytes, record_bytes}
 use Rattle.sheets.specs.declared.fault.SheetFault.{SheetFault}
 use Rattle.sheets.proofs.Chains.{test_good}

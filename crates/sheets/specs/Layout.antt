@@ -2,6 +2,7 @@
 --     StretchModel  bytes of the sheet, with the place where they begin
 --     PieceModel    a record: its kind, its place, and its payload
 --     split         the record that begins a stretch, and what stands behind it
+--     counted       the first bytes of a record, so many, and what stands behind them
 --     fields        a record's first fields, and what stands behind them
 use Rattle.std.specs.Prelude.{ℕ, ◌+◌, cond, ◌&&◌, List, length, take, drop, ℤ, Ok, Err, Result, ◌==◌, nat_le, get_or}
 use Rattle.std.specs.Int.{w16, w32, from_le_bytes, cast_signed}
@@ -58,11 +59,13 @@ split s =
 abbrev pub of_kind : ℕ → PieceModel → Result PieceModel SheetFault
 of_kind n p = cond (p.kind == n) (Ok p) (Err (Misplaced p.at p.kind))
 
+-- the first n bytes of the record at a place, and those behind them
+abbrev pub counted : ℕ → ℕ → StretchModel → Result (List ℕ × StretchModel) SheetFault
+counted at n s = cond (nat_le n (length s.bytes)) (Ok (take n s.bytes, behind n s)) (Err (ShortFields at))
+
 -- n bytes of fields
 abbrev pub fields : ℕ → PieceModel → Result (List ℕ × StretchModel) SheetFault
-fields n p =
-    cond (nat_le n (length p.inside.bytes))
-    (Ok (take n p.inside.bytes, behind n p.inside)) (Err (ShortFields p.at))
+fields n p = counted p.at n p.inside
 
 -- no byte is left over of the record at a place
 abbrev pub ended : ℕ → StretchModel → Result (Unit {0}) SheetFault

@@ -2,9 +2,10 @@
 --     Outline       all that a sheet says
 --     zones         its zones, in the sheet's order
 --     rules         its rules, in the sheet's order
-use Rattle.std.specs.Prelude.{ℕ, List}
-use Rattle.std.specs.List.{flat_map}
-use Rattle.formulas.specs.Formula.{Formula}
+--     in_a_zone     a head stands in one of the zones
+use Rattle.std.specs.Prelude.{ℕ, Bool, List}
+use Rattle.std.specs.List.{flat_map, list_any}
+use Rattle.formulas.specs.Formula.{Formula, among}
 
 -- a rule: its number, and its formula
 pub record SheetRule : Type 0 where
@@ -34,6 +35,10 @@ zones_of gs = flat_map (λ g. g.zones) gs
 -- the rules of all zones
 abbrev pub rules_of : List SheetZone → List SheetRule
 rules_of zs = flat_map (λ z. z.rules) zs
+
+-- one of the zones has the head
+abbrev pub in_a_zone : ℕ → List SheetZone → Bool
+in_a_zone h zs = list_any (λ z. among h z.heads) zs
 
 abbrev pub zones : Outline → List SheetZone
 zones o = zones_of o.groups

@@ -11,8 +11,8 @@ use Rattle.rules.specs.Assemble.{assemble, fair}
 use Rattle.rules.specs.declared.fault.RuleFault.{RuleFault}
 use Rattle.rules.specs.declared.sizes.TheConstants.{ENTRIES, ZONE_HEADS}
 use Rattle.sheets.specs.Formulas.{formula}
-use Rattle.sheets.specs.Layout.{StretchModel, PieceModel, behind, word_at, byte_at, split, of_kind, fields, ended}
-use Rattle.sheets.specs.Outlines.{Outline, SheetGroup, SheetZone, SheetRule, rules_of, zones}
+use Rattle.sheets.specs.Layout.{StretchModel, PieceModel, behind, word_at, byte_at, split, of_kind, fields, counted, ended}
+use Rattle.sheets.specs.Outlines.{in_a_zone, Outline, SheetGroup, SheetZone, SheetRule, rules_of, zones}
 use Rattle.sheets.specs.declared.fault.SheetFault.{SheetFault}
 use Rattle.sheets.specs.declared.fault.SheetFault.TheVariants.{ShortFields, NameLength, NameByte, HeadCount, HeadAboveTotal, HeadNotRising, HeadInTwoZones, ZoneNumberTwice, RuleNumberTwice, TooManyGroups, TooManyZones, TooManyRules, Rule}
 use Rattle.sheets.specs.declared.sizes.TheConstants.{GROUPS, NAME_BYTES, RULES, ZONES}
@@ -27,13 +27,9 @@ records add zero x s = Ok x
 records add (suc turns) x s =
     cond (length s.bytes == 0) (Ok x) (on (add x s) (λ y. records add turns y.0 y.1))
 
--- record after record; each has a byte at least
+-- record after record; each has four bytes at least
 abbrev pub to_end : {X : Type 0} → Adder X → X → StretchModel → Result X SheetFault
 to_end add x s = records add (length s.bytes) x s
-
--- so many bytes of a list that its own field counts
-abbrev pub counted : ℕ → ℕ → StretchModel → Result (List ℕ × StretchModel) SheetFault
-counted at n s = cond (nat_le n (length s.bytes)) (Ok (take n s.bytes, behind n s)) (Err (ShortFields at))
 
 -- a rule's own fault, at the rule's place
 abbrev pub at_rule : {X : Type 0} → ℕ → Result X RuleFault → Result X SheetFault
@@ -67,7 +63,7 @@ zone_heads at total before low [] = Ok tt
 zone_heads at total before low (h ∷ hs) =
     cond (nat_le total h) (Err (HeadAboveTotal at h))
     (cond (nat_lt h low) (Err (HeadNotRising at h))
-    (cond (list_any (λ z. among h z.heads) before) (Err (HeadInTwoZones at h))
+    (cond (in_a_zone h before) (Err (HeadInTwoZones at h))
     (zone_heads at total before (suc h) hs)))
 
 -- a zone's number among the zones before it

@@ -6,7 +6,7 @@ use Rattle.formulas.specs.Formula.{among}
 use Rattle.rules.specs.Assemble.{fair}
 use Rattle.entries.specs.declared.heads.TheConstants.{HEADS}
 use Rattle.sheets.specs.Layout.{PieceModel, word_at, byte_at, fields}
-use Rattle.sheets.specs.Outlines.{Outline, SheetZone, zones, rules}
+use Rattle.sheets.specs.Outlines.{in_a_zone, Outline, SheetZone, zones, rules}
 use Rattle.sheets.specs.Parts.{to_end, group}
 use Rattle.sheets.specs.declared.fault.SheetFault.{SheetFault}
 use Rattle.sheets.specs.declared.fault.SheetFault.TheVariants.{Size, NotASheet, HeadTotal, HeadInNoZone, TooFewPlaces}
@@ -28,7 +28,7 @@ head_total n = cond (fair n HEADS) (Ok tt) (Err (HeadTotal 0 n))
 abbrev pub all_zoned : List SheetZone → ℕ → ℕ → Result (Unit {0}) SheetFault
 all_zoned zs h zero = Ok tt
 all_zoned zs h (suc count) =
-    cond (list_any (λ z. among h z.heads) zs) (all_zoned zs (suc h) count) (Err (HeadInNoZone h))
+    cond (in_a_zone h zs) (all_zoned zs (suc h) count) (Err (HeadInNoZone h))
 
 -- what the sheet says
 unfoldable pub read : List ℕ → Result Outline SheetFault

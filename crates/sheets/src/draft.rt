@@ -1,5 +1,5 @@
 // A rule's formula on its way to a rule.
-ghost use Rattle.std.specs.Prelude.{◌≡◌, ◌+◌, ◌≤◌, length};
+ghost use Rattle.std.specs.Prelude.{◌+◌, ◌≤◌, length};
 ghost use Rattle.rules.specs.declared.sizes.TheConstants.{ENTRIES};
 
 use arrayvec::ArrayVec;

@@ -21,7 +21,7 @@ pub(crate) fn operands(kind: Kind) -> u8
     }
 }
 
-// The limit in the last four of a test's fields.
+// The limit in the last four bytes of a test's fields.
 fn limit(fields: [u8; 6]) -> i32
     ensures { result ≡ limit_at 2 fields }
 {
@@ -50,23 +50,23 @@ impl<'a> Piece<'a> {
             ..Entry::BLANK
         };
         match kind {
-            Kind::HeadTest => {
+            Kind::HeadTest | Kind::ZoneTest => {
                 let (fields, inside) = self.fields::<6>()?;
-                let entry = Entry {
-                    head: fields[0],
+                let test = Entry {
                     sense: fields[1],
                     limit: limit(fields),
                     ..blank
                 };
-                Ok((entry, inside))
-            }
-            Kind::ZoneTest => {
-                let (fields, inside) = self.fields::<6>()?;
-                let entry = Entry {
-                    k: fields[0],
-                    sense: fields[1],
-                    limit: limit(fields),
-                    ..blank
+                let entry = if kind == Kind::HeadTest {
+                    Entry {
+                        head: fields[0],
+                        ..test
+                    }
+                } else {
+                    Entry {
+                        k: fields[0],
+                        ..test
+                    }
                 };
                 Ok((entry, inside))
             }

@@ -1,10 +1,9 @@
 // Formulas, each a record that holds the formulas it takes.
-ghost use Rattle.std.specs.Prelude.{◌≡◌, ℕ, ◌+◌, ◌-◌, ◌<◌, ◌≤◌, [], ◌++◌, ◌∷◌, length, IfOk, OnOk, OnErr, Ok, Err};
-ghost use Rattle.entries.specs.Kinds.{kind_number};
+ghost use Rattle.std.specs.Prelude.{◌≡◌, ℕ, ◌+◌, ◌<◌, ◌≤◌, [], length, IfOk, OnOk};
 ghost use Rattle.rules.specs.declared.sizes.TheConstants.{ENTRIES};
-ghost use Rattle.sheets.specs.Formulas.{taken, entry_of, begun, formula_by, operands_by};
-ghost use Rattle.sheets.specs.Layout.{stretch, piece};
-ghost use Rattle.sheets.specs.Standing.{Meets, Drafted, Level};
+ghost use Rattle.sheets.specs.Formulas.{begun, formula_by, operands_by};
+ghost use Rattle.sheets.specs.Layout.{stretch};
+ghost use Rattle.sheets.specs.Standing.{Drafted, Level};
 
 use crate::draft::Draft;
 use crate::fault::SheetFault;

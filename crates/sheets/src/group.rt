@@ -1,9 +1,8 @@
 // Groups: each its name, and zones.
-ghost use Rattle.std.specs.Prelude.{◌≡◌, ℕ, ◌+◌, ◌<◌, ◌≤◌, List, [], ◌∷◌, ◌++◌, length, MatchResult, Ok, Err, IfOk, OnOk};
+ghost use Rattle.std.specs.Prelude.{◌≡◌, ◌<◌, length, IfOk};
 ghost use Rattle.sheets.specs.Layout.{stretch, piece as piece_of};
-ghost use Rattle.sheets.specs.Outlines.{Outline, SheetGroup, SheetZone};
-ghost use Rattle.sheets.specs.Parts.{name as name_of, group as group_of, opened_group, group_room};
-ghost use Rattle.sheets.specs.Standing.{Adds, Fills, InSheet, InGroup, Stands};
+ghost use Rattle.sheets.specs.Parts.{name as name_of, group as group_of};
+ghost use Rattle.sheets.specs.Standing.{Adds, Fills, InSheet, OpensGroup};
 
 use crate::fault::SheetFault;
 use crate::piece::Piece;
@@ -33,7 +32,7 @@ fn check_name(name: &[u8], at: usize) -> Result<(), SheetFault>
 impl Reader {
     // The group of a record, met from now on: the stretch of its zones.
     fn open_group<'a>(&mut self, piece: Piece<'a>) -> Result<Stretch<'a>, SheetFault>
-        ensures { (total : ℕ) (gs : List SheetGroup) (zs : List SheetZone) → Stands total (length gs) zs self.old → MatchResult result (λ zones. (g : SheetGroup) × (opened_group gs (piece_of piece.entry) ≡ Ok (g, stretch zones)) × (g.zones ≡ []) × Stands total (length gs + 1) zs self.new) (λ f. opened_group gs (piece_of piece.entry) ≡ Err f) }
+        ensures { OpensGroup (piece_of piece.entry) self.old self.new result }
     {
         let at = piece.at;
         let ([length], inside) = piece.of_kind(GROUP)?.fields::<1>()?;

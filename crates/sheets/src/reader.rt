@@ -7,7 +7,7 @@ use arrayvec::ArrayVec;
 use entries::HeadSet;
 use rules::RulePlace;
 
-// The numbers of the zones and the rules met so far, with what a later record is held against.
+// What was met so far, against which later records are held: the zones' numbers and heads, and the rules.
 #[derive(Drop)]
 pub(crate) struct Reader {
     // The sheet's head total.

@@ -1,13 +1,12 @@
 // A rule: its number, and one formula.
-ghost use Rattle.std.specs.Prelude.{◌≡◌, ℕ, ◌+◌, ◌<◌, ◌≤◌, List, [], ◌∷◌, ◌++◌, length, map, OnOk, IfOk};
+ghost use Rattle.std.specs.Prelude.{◌≡◌, ℕ, ◌<◌, List, length, map, OnOk, IfOk};
 ghost use Rattle.entries.specs.Heads.{heads};
 ghost use Rattle.sheets.specs.Layout.{stretch};
-ghost use Rattle.sheets.specs.Loading.{line, lines};
-ghost use Rattle.sheets.specs.Outlines.{SheetZone, SheetRule, rules_of};
+ghost use Rattle.sheets.specs.Outlines.{SheetZone, SheetRule};
 ghost use Rattle.sheets.specs.Parts.{rule as rule_of, rule_number, rule_formula};
+ghost use Rattle.sheets.specs.declared.sizes.TheConstants.{RULES};
 ghost use Rattle.sheets.specs.Standing.{Meets, Adds, Fills, InZone};
 ghost use Rattle.rules.specs.Rules.{formula, zone as zone_heads};
-ghost use Rattle.rules.specs.declared.rule.Rule.{Rule};
 
 use crate::draft::Draft;
 use crate::fault::SheetFault;
@@ -34,7 +33,7 @@ impl Reader {
     // The ground against a rule's number: an earlier rule has it, or there is no room for one more rule.
     fn check_rule(&self, number: u16, at: usize) -> Result<(), SheetFault>
         ensures value { (rs : List SheetRule) → map (λ p. p.rule_number) self.now.rules.items ≡ map (λ r. r.number) rs → result ≡ rule_number at number rs }
-        ensures room { OnOk result (length self.now.rules.items < 64) }
+        ensures room { OnOk result (length self.now.rules.items < RULES) }
     {
         let earlier = self.rules.as_slice();
         if earlier.iter().any(|rule| rule.rule_number == number) {

@@ -1,13 +1,10 @@
 // The sheet's own record: the head total, and groups.
-ghost use Rattle.std.specs.Prelude.{◌≡◌, ℕ, ◌+◌, ◌≤◌, [], List, MatchResult, Ok, Err, OnOk};
-ghost use Rattle.std.specs.List.{list_any};
-ghost use Rattle.formulas.specs.Formula.{among};
-ghost use Rattle.entries.specs.Heads.{heads};
+ghost use Rattle.std.specs.Prelude.{◌≡◌, ◌≤◌, [], List, MatchResult, Ok, Err, OnOk};
 ghost use Rattle.entries.specs.declared.heads.TheConstants.{HEADS};
 ghost use Rattle.sheets.specs.Layout.{piece as piece_of};
 ghost use Rattle.sheets.specs.Outlines.{Outline, SheetZone};
 ghost use Rattle.sheets.specs.Reading.{whole as whole_of, read, all_zoned, head_total};
-ghost use Rattle.sheets.specs.Standing.{Meets, InSheet, Stands};
+ghost use Rattle.sheets.specs.Standing.{HeadsMet, InSheet, Meets, Stands};
 
 use crate::fault::SheetFault;
 use crate::piece::Piece;
@@ -66,7 +63,7 @@ impl Reader {
 
     // Every head below the total is in a zone, or the first that is not.
     fn all_zoned(&self) -> Result<(), SheetFault>
-        ensures { (zs : List SheetZone) → ((h : ℕ) → among h (heads self.now.heads.bits) ≡ list_any (λ z. among h z.heads) zs) → result ≡ all_zoned zs 0 self.now.total }
+        ensures { (zs : List SheetZone) → HeadsMet zs self.now.heads → result ≡ all_zoned zs 0 self.now.total }
     {
         for head in 0..self.total {
             if !self.heads.contains(head) {

@@ -1,7 +1,6 @@
 // Parting a stretch of a sheet's bytes into records and their fields.
-ghost use Rattle.std.specs.Prelude.{◌≡◌, ◌+◌, ◌<◌, ◌≤◌, ◌==◌, length, IfOk};
-ghost use Rattle.sheets.specs.Layout.{stretch, piece, split as split_of, of_kind as of_kind_of, fields as fields_of, ended};
-ghost use Rattle.sheets.specs.Parts.{counted as counted_of};
+ghost use Rattle.std.specs.Prelude.{◌≡◌, ◌+◌, ◌≤◌, ◌==◌, length, IfOk};
+ghost use Rattle.sheets.specs.Layout.{stretch, piece, split as split_of, of_kind as of_kind_of, fields as fields_of, ended, counted as counted_of};
 ghost use Rattle.sheets.specs.Standing.{Meets};
 
 use crate::fault::SheetFault;

@@ -1,5 +1,5 @@
-// A stretch of a sheet's bytes, and the record that begins it.
-ghost use Rattle.std.specs.Prelude.{◌≡◌, ◌+◌, ◌≤◌, length};
+// A stretch of a sheet's bytes.
+ghost use Rattle.std.specs.Prelude.{◌+◌, ◌≤◌, length};
 ghost use Rattle.sheets.specs.declared.sizes.TheConstants.{SHEET_BYTES};
 
 // Bytes of the sheet, with the place in it where they begin.

@@ -1,13 +1,10 @@
 // Zones: each its number, its heads, and rules.
-ghost use Rattle.std.specs.Prelude.{◌≡◌, ℕ, ◌+◌, ◌<◌, ◌≤◌, List, [], ◌∷◌, ◌++◌, length, map, MatchResult, Ok, Err, IfOk, OnOk};
-ghost use Rattle.std.specs.List.{list_any};
-ghost use Rattle.faults.specs.Checks.{on};
-ghost use Rattle.formulas.specs.Formula.{among};
-ghost use Rattle.entries.specs.Heads.{heads};
+ghost use Rattle.std.specs.Prelude.{◌≡◌, ℕ, ◌<◌, List, length, map, IfOk, OnOk};
 ghost use Rattle.sheets.specs.Layout.{stretch, piece as piece_of};
-ghost use Rattle.sheets.specs.Outlines.{SheetZone, SheetGroup};
-ghost use Rattle.sheets.specs.Parts.{zone as zone_of, zone_heads, zone_number, opened_zone, head_count};
-ghost use Rattle.sheets.specs.Standing.{Meets, Adds, Fills, Stands, InZone, InGroup};
+ghost use Rattle.sheets.specs.Outlines.{SheetZone};
+ghost use Rattle.sheets.specs.Parts.{zone as zone_of, zone_number, head_count};
+ghost use Rattle.sheets.specs.Standing.{Adds, Fills, GivesHeads, InGroup, OpensZone};
+ghost use Rattle.sheets.specs.declared.sizes.TheConstants.{ZONES};
 
 use crate::fault::SheetFault;
 use crate::piece::Piece;
@@ -33,7 +30,7 @@ fn check_count(count: u8, at: usize) -> Result<(), SheetFault>
 impl Reader {
     // The heads of a zone, as a set: below the total, rising, and in no earlier zone.
     fn zone_heads(&self, listed: &[u8], at: usize) -> Result<HeadSet, SheetFault>
-        ensures { (zs : List SheetZone) → ((h : ℕ) → among h (heads self.now.heads.bits) ≡ list_any (λ z. among h z.heads) zs) → MatchResult result (λ set. (zone_heads at self.now.total zs 0 listed.now ≡ Ok tt) × (heads set.bits ≡ listed.now)) (λ f. zone_heads at self.now.total zs 0 listed.now ≡ Err f) }
+        ensures { GivesHeads at self.now.total self.now.heads listed.now result }
     {
         let mut set = HeadSet::empty();
         let mut low = 0;
@@ -59,7 +56,7 @@ impl Reader {
     // The ground against a zone's number: an earlier zone has it, or there is no room for one more zone.
     fn check_zone(&self, number: u16, at: usize) -> Result<(), SheetFault>
         ensures value { (zs : List SheetZone) → self.now.zones.items ≡ map (λ z. z.number) zs → result ≡ zone_number at number zs }
-        ensures room { OnOk result (length self.now.zones.items < 32) }
+        ensures room { OnOk result (length self.now.zones.items < ZONES) }
     {
         let earlier = self.zones.as_slice();
         if earlier.iter().any(|zone| *zone == number) {
@@ -73,7 +70,7 @@ impl Reader {
 
     // The zone of a record, met from now on, and the stretch of its rules.
     fn open_zone<'a>(&mut self, piece: Piece<'a>) -> Result<(Zone, Stretch<'a>), SheetFault>
-        ensures value { (total groups : ℕ) (before : List SheetZone) → Stands total groups before self.old → MatchResult result (λ x. (z : SheetZone) × (opened_zone total before (piece_of piece.entry) ≡ Ok (z, stretch x.1)) × InZone total groups before x.0 z self.new) (λ f. opened_zone total before (piece_of piece.entry) ≡ Err f) }
+        ensures value { OpensZone (piece_of piece.entry) self.old self.new result }
     {
         let at = piece.at;
         let ([low, high, count], inside) = piece.of_kind(ZONE)?.fields::<3>()?;

@@ -1,4 +1,6 @@
 // What the words behind the program's name ask for.
+use std::slice;
+use texts::Written;
 
 // The scale that readings are on.
 #[derive(Clone, Copy, PartialEq, Eq)]
@@ -28,9 +30,9 @@ pub enum Task<'a> {
     // One row per rule.
     Report,
     // A line per answered poll of one rule.
-    Margins { rule: u16 },
+    Margins { rule: u32 },
     // A picture of one rule's margins, in a file.
-    Plot { rule: u16, picture: &'a str },
+    Plot { rule: u32, picture: &'a str },
 }
 
 // A soak's files, and what is to be written of it.
@@ -78,6 +80,11 @@ impl<'a> Command<'a> {
     }
 }
 
+// The number that a word writes in digits.
+fn number(word: &String) -> Option<u32> {
+    u32::read(word.as_str().as_bytes()).ok()
+}
+
 fn check(words: &[String]) -> Option<Command<'_>> {
     match words {
         [sheet] => Some(Command::Check {
@@ -108,7 +115,7 @@ fn margins(words: &[String]) -> Option<Command<'_>> {
         readings: readings.as_str(),
         scale: ScaleName::of(scale)?,
         task: Task::Margins {
-            rule: rule.as_str().parse().ok()?,
+            rule: number(rule)?,
         },
     }))
 }
@@ -117,12 +124,16 @@ fn plot(words: &[String]) -> Option<Command<'_>> {
     let [sheet, readings, rule, picture, scale @ ..] = words else {
         return None;
     };
+    // A scale in the picture's place is a picture forgotten.
+    if ScaleName::of(slice::from_ref(picture)).is_some() {
+        return None;
+    }
     Some(Command::Soak(Job {
         sheet: sheet.as_str(),
         readings: readings.as_str(),
         scale: ScaleName::of(scale)?,
         task: Task::Plot {
-            rule: rule.as_str().parse().ok()?,
+            rule: number(rule)?,
             picture: picture.as_str(),
         },
     }))

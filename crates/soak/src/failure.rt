@@ -32,7 +32,9 @@ pub enum Failure {
     #[error("the readings are of {heads} heads, and the sheet's card has {card}")]
     OtherCard { heads: u32, card: u32 },
     #[error("the sheet has no rule {number}")]
-    NoRule { number: u16 },
+    NoRule { number: u32 },
+    #[error("the picture would be written over a file that is read")]
+    PictureOverInput,
     #[error("{path}: {trouble}")]
     File { path: String, trouble: Trouble },
     #[error("the words are none that the program knows")]

@@ -17,6 +17,8 @@ pub enum Trouble {
     Forbidden,
     #[error("it cannot be read")]
     Unreadable,
+    #[error("it is too long")]
+    TooLong,
     #[error("it cannot be written")]
     Unwritable,
 }
@@ -40,9 +42,9 @@ fn fault(rt: &HostRuntime, path: &str, trouble: Trouble) -> Failure {
     }
 }
 
-// The first bytes of a file, at most so many.
-pub fn read(rt: &HostRuntime, path: &str, most: u64) -> Result<Vec<u8>, Failure> {
-    front(rt, path, most).map_err(|trouble| fault(rt, path, trouble))
+// The bytes of a file that has at most so many.
+pub fn read(rt: &HostRuntime, path: &str, most: usize) -> Result<Vec<u8>, Failure> {
+    whole(rt, path, most).map_err(|trouble| fault(rt, path, trouble))
 }
 
 // A text into a file, in the place of what it held.
@@ -50,8 +52,12 @@ pub fn write(rt: &HostRuntime, path: &str, text: &str) -> Result<(), Failure> {
     fs::write(rt, path, text).map_err(|_| fault(rt, path, Trouble::Unwritable))
 }
 
-fn front(rt: &HostRuntime, path: &str, most: u64) -> Result<Vec<u8>, Trouble> {
+fn whole(rt: &HostRuntime, path: &str, most: usize) -> Result<Vec<u8>, Trouble> {
     let mut bytes = Vec::new(rt.alloc());
-    File::open(rt, path)?.take(most).read_to_end(&mut bytes)?;
+    let limit = (most as u64).saturating_add(1);
+    File::open(rt, path)?.take(limit).read_to_end(&mut bytes)?;
+    if bytes.len() > most {
+        return Err(Trouble::TooLong);
+    }
     Ok(bytes)
 }

@@ -25,7 +25,7 @@ fn run(rt: &HostRuntime) -> Result<(), Failure> {
         Some(Command::Check { sheet }) => check::check(rt, sheet),
         Some(Command::Soak(job)) => margins::run(rt, job),
         None => {
-            println!(rt; "{USAGE}")?;
+            eprintln!(rt; "{USAGE}")?;
             Err(Failure::Words)
         }
     }

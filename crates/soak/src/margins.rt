@@ -10,8 +10,8 @@ use scales::{Counts, Obscuration};
 use std::fs;
 use texts::{Written, WrittenReading, is_log, read_grid, read_log};
 
-// The most bytes that are read of a file of readings.
-const FILE_BYTES: u64 = 1 << 32;
+// The most bytes of a file of readings.
+const FILE_BYTES: usize = 1 << 32;
 
 // A job with its files read.
 #[derive(Drop)]
@@ -24,6 +24,11 @@ struct Work<'a> {
 
 // Reads the files of a job, and writes what it asks for.
 pub fn run(rt: &HostRuntime, job: Job<'_>) -> Result<(), Failure> {
+    if let Task::Plot { picture, .. } = job.task
+        && (picture == job.sheet || picture == job.readings)
+    {
+        return Err(Failure::PictureOverInput);
+    }
     let site = Site::read(rt, job.sheet)?;
     let text = files::read(rt, job.readings, FILE_BYTES)?;
     let work = Work {
@@ -39,7 +44,7 @@ pub fn run(rt: &HostRuntime, job: Job<'_>) -> Result<(), Failure> {
 }
 
 impl Work<'_> {
-    // The record that the text spells, on a scale.
+    // Reads the record that the text spells, on a scale, and writes what is asked for of it.
     fn read<S: Measured + Copy>(&self, scale: S) -> Result<(), Failure>
     where
         S::Reading: WrittenReading,

@@ -11,6 +11,7 @@ pub struct Clock<'a> {
     rt: &'a HostRuntime,
     polls: u32,
     rule: u16,
+    done: u32,
     said: Option<Instant>,
 }
 
@@ -21,6 +22,7 @@ impl<'a> Clock<'a> {
             rt,
             polls,
             rule: 0,
+            done: 0,
             said: Instant::now(rt).ok(),
         }
     }
@@ -43,7 +45,8 @@ impl Progress for Clock<'_> {
     }
 
     fn tell(&mut self, polls: u32) {
-        if polls % POLLS != 0 || !self.is_time() {
+        self.done = self.done.wrapping_add(1);
+        if self.done % POLLS != 0 || !self.is_time() {
             return;
         }
         let rule = self.rule;

@@ -4,9 +4,8 @@ use crate::files;
 use rules::RulePlace;
 use sheets::{Loaded, RULES, load};
 
-// The most bytes that are read of a sheet file: far more than a sheet has, so that a file too long for a sheet is refused by
-// its own length.
-const FILE_BYTES: u64 = 1 << 24;
+// The most bytes of a sheet file: far more than a sheet has, so that a file too long for a sheet is refused by its own length.
+const FILE_BYTES: usize = 1 << 24;
 
 // The byte of a sheet that tells how many heads its card has: it follows the header of the sheet's own record.
 const HEAD_TOTAL: usize = 4;
@@ -39,9 +38,9 @@ impl Site {
     }
 
     // The rule of a number.
-    pub fn rule(&self, number: u16) -> Result<RulePlace, Failure> {
+    pub fn rule(&self, number: u32) -> Result<RulePlace, Failure> {
         for place in self.rules() {
-            if place.rule_number == number {
+            if u32::from(place.rule_number) == number {
                 return Ok(*place);
             }
         }

@@ -5,7 +5,6 @@ use Rattle.sheets.specs.Standing.{Fills, InZone}
 use Rattle.sheets.proofs.ToEndLoop.{goes_on, is_filled, is_stopped}
 use Rattle.sheets.proofs.reader.Reader.rules.Goals as goal
 
--- src/rule.rt:74:20
 pub returns-in_err-left : goal.returns-in_err-left
 returns-in_err-left c total groups before =
     let adds = c.in_err-left.ensures.value total groups before in
@@ -13,10 +12,8 @@ returns-in_err-left c total groups before =
     let is : c.from_residual.result ≡ Err c.in_err-left.field-0.0 = search rules in
     subst (λ r. Fills (InZone total groups before c.args.zone) (rule_of before) (stretch c.args.holder) c.args.self.now c.rule.new.self r) (sym is) stopped
 
--- src/rule.rt:73:9
 pub loop-left-preserved : goal.loop-left-preserved
 loop-left-preserved c total groups before = goes_on (InZone total groups before c.args.zone) (rule_of before) (stretch c.args.holder) c.args.self.now (stretch c.loop-left.left) c.loop-left.self c.rule.new.self c.in_ok-left.left (c.loop-left.invariant total groups before) (search rules) (c.in_ok-left.ensures.value total groups before) c.in_ok-left.ensures.shorter
 
--- src/rule.rt:69:5
 pub returns : goal.returns
 returns c total groups before = is_filled (InZone total groups before c.args.zone) (rule_of before) (stretch c.args.holder) c.args.self.now (stretch c.loop-left.left) c.loop-left.self (c.loop-left.invariant total groups before) (search rules)

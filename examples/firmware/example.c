@@ -1,4 +1,4 @@
-/* A window 0 to 3, share 500, of head 0 at least 8, surveyed and played from C on counts and on obscuration. */
+/* A window 0 to 3, share 500, of head 0 at least 8, surveyed and played from C on counts and on obscuration; and verdicts. */
 #include <stdio.h>
 
 #include "yiddolza.h"
@@ -63,6 +63,30 @@ static void on_obscuration(const struct yiddolza_entry *entries, size_t count)
     printf("\n");
 }
 
+/* Whether a head, and the one head of a zone, is at most a limit. */
+static void on_verdicts(void)
+{
+    const struct yiddolza_entry low = {.kind = YIDDOLZA_HEAD_TEST, .head = 0, .sense = YIDDOLZA_AT_MOST, .limit = 8};
+    const struct yiddolza_entry clear = {.kind = YIDDOLZA_ZONE_TEST, .k = 1, .sense = YIDDOLZA_AT_MOST, .limit = 256};
+    int32_t cells[2] = {-1, 1}, list[POLLS] = {0};
+    for (uint32_t poll = 0; poll <= 1; poll++) {
+        struct yiddolza_count_survey s =
+            yiddolza_survey_count_verdict(&low, 1, 1, HEADS, POLLS, counts, POLLS, poll, cells, COUNT(cells));
+        tell("verdict on counts", s.refusal);
+        printf("%d\n", (int)s.margin);
+        s = yiddolza_survey_obscuration_verdict(&clear, 1, 1, HEADS, POLLS, obscuration, POLLS, poll, cells, COUNT(cells));
+        tell("verdict on obscuration", s.refusal);
+        printf("%d\n", (int)s.margin);
+    }
+    struct yiddolza_play p = yiddolza_play_obscuration_verdicts(&clear, 1, 1, HEADS, POLLS, obscuration, POLLS, cells,
+                                                                COUNT(cells), list, POLLS);
+    tell("play", p.refusal);
+    printf("%u rows, verdicts", (unsigned)p.rows);
+    for (size_t i = 0; i < p.margins; i++)
+        printf(" %d", (int)list[i]);
+    printf("\n");
+}
+
 static void refusals(const struct yiddolza_entry *entries, size_t count)
 {
     static const int32_t bad[POLLS] = {5, 9, 65536, 7, 10, 3, 8, 11};
@@ -95,6 +119,7 @@ int main(void)
     };
     on_counts(entries, COUNT(entries));
     on_obscuration(smoke, COUNT(smoke));
+    on_verdicts();
     refusals(entries, COUNT(entries));
     return 0;
 }

@@ -41,11 +41,11 @@ module _ {S Reading Margin : Type 0} (model : S → ScaleModel Reading Margin) (
     rule_is = made.made_rule;
     scale_is = made.made_scale;
     enough = enough;
-    holds = λ rest. subst (Holds (model scale) rule w.rows (cells ++ rest)) (sym (no_rows (model scale) rule rm 0)) (made.holds (cells ++ rest));
+    holds = λ rest. subst (Holds (model scale) rule w.rows.count (cells ++ rest)) (sym (no_rows (model scale) rule rm 0)) (made.holds (cells ++ rest));
   }
 
   module _ (n : ℕ) (w : Watch S) (cells : List Margin) (f : Follows model rule scale rm n w cells) where
-    rows_are : w.rows ≡ n
+    rows_are : w.rows.count ≡ n
     rows_are = (f.holds []).count ∙ length_rows (model scale) rule rm 0 n
 
     -- ---- a step
@@ -59,7 +59,7 @@ module _ {S Reading Margin : Type 0} (model : S → ScaleModel Reading Margin) (
 
       module _ (w' : Watch S) (cells' : List Margin) (r : Result (Unit {0}) WatchFault) (s : Stepped model rm n w cells w' cells' r) where
         answer : r ≡ checked (row_fault (model scale) rule rm n)
-        answer = along (λ ru sc. r ≡ checked (refusal (model sc) ru rm n (length cells) w.rows)) f.rule_is f.scale_is s.answer ∙ ap checked (row_only w.rows rows_are)
+        answer = along (λ ru sc. r ≡ checked (refusal (model sc) ru rm n (length cells) w.rows.count)) f.rule_is f.scale_is s.answer ∙ ap checked (row_only w.rows.count rows_are)
 
         pub no_fault : r ≡ Ok tt → row_fault (model scale) rule rm n ≡ None
         no_fault e = none_told (row_fault (model scale) rule rm n) (sym e ∙ answer)
@@ -78,8 +78,8 @@ module _ {S Reading Margin : Type 0} (model : S → ScaleModel Reading Margin) (
               = let from : 0 + n ≡ n = omega arith in
               ap (λ o. calls.unless o (rows ++ (row (model scale) rule rm n ∷ [])) rows) (row_only (length rows) (length_rows (model scale) rule rm 0 n) ∙ no_fault e)
               ∙ ap (λ p. rows ++ (row (model scale) rule rm p ∷ [])) (sym from) ∙ sym (more_rows (model scale) rule rm 0 n) in
-              subst (Holds (model scale) rule w'.rows (cells' ++ rest)) next
-              (along (λ ru sc. Holds (model sc) ru w.rows (cells ++ rest) rows → Holds (model sc) ru w'.rows (cells' ++ rest) (after_step (model sc) ru rm n (length cells) rows)) f.rule_is f.scale_is (s.advances.kept rest rows) (f.holds rest));
+              subst (Holds (model scale) rule w'.rows.count (cells' ++ rest)) next
+              (along (λ ru sc. Holds (model sc) ru w.rows.count (cells ++ rest) rows → Holds (model sc) ru w'.rows.count (cells' ++ rest) (after_step (model sc) ru rm n (length cells) rows)) f.rule_is f.scale_is (s.advances.kept rest rows) (f.holds rest));
         }
 
     -- ---- an ask
@@ -87,7 +87,7 @@ module _ {S Reading Margin : Type 0} (model : S → ScaleModel Reading Margin) (
     asked_meant r a =
         let rows = rows_from (model scale) rule rm 0 n in
         let enough = f.enough in
-        along (λ ru sc. Holds (model sc) ru w.rows (cells ++ []) rows → calls.meant (model sc).whole r ≡ reply (model sc) ru rows (length cells)) f.rule_is f.scale_is (a [] rows) (f.holds [])
+        along (λ ru sc. Holds (model sc) ru w.rows.count (cells ++ []) rows → calls.meant (model sc).whole r ≡ reply (model sc) ru rows (length cells)) f.rule_is f.scale_is (a [] rows) (f.holds [])
         ∙ cond-false (ltb (length cells) (cells_of rule)) _ _ (le-ltb (length cells) (cells_of rule) enough)
         ∙ ap (λ k. cond {A = Result (Answer ℤ) WatchFault} (leb k (horizon (formula rule))) (Ok (Waiting (horizon (formula rule) + 1 - k))) (Ok (At (k - 1 - horizon (formula rule)) (margin (model scale).mark (zone rule) (formula rule) (signal rows) (k - 1 - horizon (formula rule))))))
         (length_rows (model scale) rule rm 0 n)

@@ -27,13 +27,13 @@ use Rattle.desk.specs.declared.trouble.Trouble.{Trouble}
 use Rattle.desk.specs.declared.trouble.Trouble.TheVariants.{Refused, Memory, Output}
 
 -- n polls are taken with no fault, both watches have followed them, and all their answers are heard
-pub record Heard {S Reading Margin L : Type 0} (model : S → ScaleModel Reading Margin) (rule : Rule) (scale : S) (rm : RecordModel Reading) (heard : L → ℕ → (ℕ → Answered) → Type 0) (n : ℕ)
+pub record Heard {S Reading Margin L : Type 0} (model : S → ScaleModel Reading Margin) (rule : Rule) (scale : S) (rm : RecordModel Reading) (heard : L → L → ℕ → (ℕ → Answered) → Type 0) (n : ℕ)
     (w : Watch S) (v : Watch (Verdict S)) (cells : List Margin) (cells' : List VerdictMargin) (l l' : L) : Type 0 where
   pub fine : polls_fault (model scale) rule rm 0 n ≡ None
   pub follows : FollowsBoth model rule scale rm n w v cells cells'
   pub hears : Hears heard (answers_of (model scale) rule rm) (n - horizon (formula rule)) l l'
 
-module _ {S Reading Margin L : Type 0} (model : S → ScaleModel Reading Margin) (rule : Rule) (scale : S) (rm : RecordModel Reading) (heard : L → ℕ → (ℕ → Answered) → Type 0) where
+module _ {S Reading Margin L : Type 0} (model : S → ScaleModel Reading Margin) (rule : Rule) (scale : S) (rm : RecordModel Reading) (heard : L → L → ℕ → (ℕ → Answered) → Type 0) where
   pub begins : (over : Verdict S) (w : Watch S) (v : Watch (Verdict S)) (cells : List Margin) (cells' : List VerdictMargin) (l : L) → over.lower ≡ scale → Made model rule scale w → Made (verdicts_over model) rule over v
       → cells_of rule ≤ length cells → cells_of rule ≤ length cells' → Heard model rule scale rm heard 0 w v cells cells' l l
   begins over w v cells cells' l e made made' enough enough' = record {
@@ -42,7 +42,7 @@ module _ {S Reading Margin L : Type 0} (model : S → ScaleModel Reading Margin)
       margins = made_follows model rule scale rm w cells enough made;
       verdicts = subst (λ s. Follows (verdicts_over model) rule (record { lower = s }) rm 0 v cells') e (made_follows (verdicts_over model) rule over rm v cells' enough' made');
     };
-    hears = λ h. let none : 0 - horizon (formula rule) ≡ 0 = omega arith in subst (λ k. heard l k (answers_of (model scale) rule rm)) (sym none) h;
+    hears = λ first h. let none : 0 - horizon (formula rule) ≡ 0 = omega arith in subst (λ k. heard first l k (answers_of (model scale) rule rm)) (sym none) h;
   }
 
   module _ (n : ℕ) (w : Watch S) (v : Watch (Verdict S)) (cells : List Margin) (vs : List VerdictMargin) (l l' : L) (inv : Heard model rule scale rm heard n w v cells vs l l') where
@@ -62,7 +62,7 @@ module _ {S Reading Margin L : Type 0} (model : S → ScaleModel Reading Margin)
       silent t = record {
         fine = no_fault t.told;
         follows = t.follows;
-        hears = λ h. subst (λ k. heard l' k (answers_of (model scale) rule rm)) (early (leb (n + 1) (horizon (formula rule))) refl t.answers) (inv.hears h);
+        hears = λ first h. subst (λ k. heard first l' k (answers_of (model scale) rule rm)) (early (leb (n + 1) (horizon (formula rule))) refl t.answers) (inv.hears first h);
       }
         where
           early : (b : Bool) → leb (n + 1) (horizon (formula rule)) ≡ b → None ≡ cond b None (Some (answers_of (model scale) rule rm (n + 1 - 1 - horizon (formula rule)))) → n - horizon (formula rule) ≡ n + 1 - horizon (formula rule)
@@ -70,17 +70,17 @@ module _ {S Reading Margin L : Type 0} (model : S → ScaleModel Reading Margin)
           early false e q = absurd (cc)
 
       pub spoken : (a : Answered) (l'' : L) → n < rm.polls → BothTaken model rule scale rm n w' v' cells' vs' (Ok (Some a))
-          → ((answers : ℕ → Answered) (k : ℕ) → k < 16777216 → a ≡ answers k → heard l' k answers → heard l'' (k + 1) answers)
+          → ((first : L) (answers : ℕ → Answered) (k : ℕ) → k < 16777216 → a ≡ answers k → heard first l' k answers → heard first l'' (k + 1) answers)
           → Heard model rule scale rm heard (n + 1) w' v' cells' vs' l l''
       spoken a l'' within t hear = record {
         fine = no_fault t.told;
         follows = t.follows;
-        hears = λ h.
+        hears = λ first h.
             let late = late_by (leb (n + 1) (horizon (formula rule))) refl t.answers in
             let few = rm.few_polls in
             let room : n - horizon (formula rule) < 16777216 = omega arith in
             let more : n - horizon (formula rule) + 1 ≡ n + 1 - horizon (formula rule) = let after = late.0 in omega arith in
-            subst (λ k. heard l'' k (answers_of (model scale) rule rm)) more (hear (answers_of (model scale) rule rm) (n - horizon (formula rule)) room late.1 (inv.hears h));
+            subst (λ k. heard first l'' k (answers_of (model scale) rule rm)) more (hear first (answers_of (model scale) rule rm) (n - horizon (formula rule)) room late.1 (inv.hears first h));
       }
         where
           late_by : (b : Bool) → leb (n + 1) (horizon (formula rule)) ≡ b → Some a ≡ cond b None (Some (answers_of (model scale) rule rm (n + 1 - 1 - horizon (formula rule)))) → (horizon (formula rule) < n + 1) × (a ≡ answers_of (model scale) rule rm (n - horizon (formula rule)))
@@ -92,7 +92,7 @@ module _ {S Reading Margin L : Type 0} (model : S → ScaleModel Reading Margin)
               (omega arith, own ∙ ap (answers_of (model scale) rule rm) same)
 
 -- what lies outside the record tells no refusal
-pub outside_tells : (A : Type 0) (first : Option WatchFault) (t : Trouble) → IsOutside t → TellsFirst {A = A} first (Err t)
-outside_tells A first (Refused fault) h = absurd h
-outside_tells A first Memory h = tt
-outside_tells A first Output h = tt
+pub outside_tells : (A : Type 0) (stops : Trouble → Type 0) (first : Option WatchFault) (t : Trouble) → IsOutside t → (t ≡ Output → stops Output) → TellsFirst {A = A} stops first (Err t)
+outside_tells A stops first (Refused fault) h s = absurd h
+outside_tells A stops first Memory h s = tt
+outside_tells A stops first Output h s = s refl

@@ -6,7 +6,7 @@ use Rattle.records.specs.Model.{RecordModel}
 use Rattle.rules.specs.declared.place.RulePlace.{RulePlace}
 use Rattle.scales.specs.Model.{ScaleModel}
 use Rattle.desk.specs.Rows.{place_fault, sheet_fault}
-use Rattle.desk.specs.Told.{TellsFirst}
+use Rattle.desk.specs.Told.{TellsFirst, IsNothing, IsOutput}
 use Rattle.desk.specs.declared.trouble.Trouble.{Trouble}
 use Rattle.desk.specs.declared.trouble.Trouble.TheVariants.{Refused, Memory, Output}
 
@@ -24,7 +24,7 @@ module _ {Reading Margin : Type 0} (sm : ScaleModel Reading Margin) (rm : Record
     pub next_place : place_fault sm place rm ≡ None → sheet_fault sm places rm ≡ sheet_fault sm (drop (i + 1) places) rm
     next_place none = split ∙ ap (λ o. option_or o (sheet_fault sm (drop (i + 1) places) rm)) none
 
-    pub place_stops : (A B : Type 0) (e : Trouble) → TellsFirst {A = A} (place_fault sm place rm) (Err e) → TellsFirst {A = B} (sheet_fault sm places rm) (Err e)
+    pub place_stops : (A B : Type 0) (e : Trouble) → TellsFirst {A = A} IsNothing (place_fault sm place rm) (Err e) → TellsFirst {A = B} IsOutput (sheet_fault sm places rm) (Err e)
     place_stops A B (Refused fault) h = split ∙ ap (λ o. option_or o (sheet_fault sm (drop (i + 1) places) rm)) h
     place_stops A B Memory h = tt
-    place_stops A B Output h = tt
+    place_stops A B Output h = absurd h

@@ -41,5 +41,5 @@ abbrev pub record_fault : {Reading Margin : Type 0} → ScaleModel Reading Margi
 record_fault sm rule = record_fault_of sm (zone rule) (formula rule)
 
 -- who had heard nothing has then heard the first n answers
-abbrev pub Hears : {L : Type 0} → (L → ℕ → (ℕ → Answered) → Type 0) → (ℕ → Answered) → ℕ → L → L → Type 0
-Hears heard answers n l l' = heard l 0 answers → heard l' n answers
+abbrev pub Hears : {L : Type 0} → (L → L → ℕ → (ℕ → Answered) → Type 0) → (ℕ → Answered) → ℕ → L → L → Type 0
+Hears {L = L} heard answers n l l' = (first : L) → heard first l 0 answers → heard first l' n answers

@@ -23,7 +23,7 @@ pub record Follows {S Reading Margin : Type 0} (model : S → ScaleModel Reading
   pub rule_is : w.rule ≡ rule
   pub scale_is : w.scale ≡ scale
   pub enough : cells_of rule ≤ length cells
-  pub holds : (rest : List Margin) → Holds (model scale) rule w.rows (cells ++ rest) (rows_from (model scale) rule rm 0 n)
+  pub holds : (rest : List Margin) → Holds (model scale) rule w.rows.count (cells ++ rest) (rows_from (model scale) rule rm 0 n)
 
 -- after n rows: waiting, or the latest poll that has all its rows and the record's margin there
 abbrev pub answer_after : {Reading Margin : Type 0} → ScaleModel Reading Margin → Rule → RecordModel Reading → ℕ → Answer ℤ

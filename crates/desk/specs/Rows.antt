@@ -1,9 +1,11 @@
 -- What the report says of the rules of a sheet. Assumes nothing.
 --     place_fault   why the work on a rule place ends
+--     place_answers what its rule answers
+--     place_polls   how many polls are answered
 --     sheet_fault   why the work on a sheet ends
 --     IsRow         what a row says of the rule of a place
 --     smaller_of    the smallest margin so far
-use Rattle.std.specs.Prelude.{◌≡◌, cond, List, [], ◌∷◌, Some, None, Option, nat_lt, unsigned_abs}
+use Rattle.std.specs.Prelude.{◌≡◌, ℕ, cond, List, [], ◌∷◌, Some, None, Option, nat_lt, unsigned_abs}
 use Rattle.std.specs.Option.{option_or}
 use Rattle.formulas.specs.Formula.{horizon}
 use Rattle.records.specs.Model.{RecordModel}
@@ -11,8 +13,9 @@ use Rattle.rules.specs.Places.{place_means}
 use Rattle.rules.specs.declared.place.RulePlace.{RulePlace}
 use Rattle.scales.specs.Model.{ScaleModel}
 use Rattle.watches.specs.declared.refusals.WatchFault.{WatchFault}
-use Rattle.desk.specs.Answers.{answered_at, record_fault_of}
+use Rattle.desk.specs.Answers.{answered_at, polls_of, record_fault_of}
 use Rattle.desk.specs.Summaries.{IsOutcome}
+use Rattle.desk.specs.declared.answered.Answered.{Answered}
 use Rattle.desk.specs.declared.outcome.Outcome.{Outcome}
 use Rattle.desk.specs.declared.outcome.Outcome.TheVariants as outcome
 use Rattle.desk.specs.declared.report.RuleRow.{RuleRow}
@@ -21,6 +24,13 @@ use Rattle.desk.specs.declared.report.Smallest.{Smallest}
 -- the first fault of a reading that the rule of a place reads
 abbrev pub place_fault : {Reading Margin : Type 0} → ScaleModel Reading Margin → RulePlace → RecordModel Reading → Option WatchFault
 place_fault sm place rm = record_fault_of sm (place_means place).1 (place_means place).0 rm
+
+-- what the rule of a place answers, by polls, and how many
+abbrev pub place_answers : {Reading Margin : Type 0} → ScaleModel Reading Margin → RulePlace → RecordModel Reading → ℕ → Answered
+place_answers sm place rm = answered_at sm (place_means place).1 (place_means place).0 rm
+
+abbrev pub place_polls : {Reading : Type 0} → RulePlace → RecordModel Reading → ℕ
+place_polls place rm = polls_of (place_means place).0 rm
 
 -- the fault of the first rule that has one
 abbrev pub sheet_fault : {Reading Margin : Type 0} → ScaleModel Reading Margin → List RulePlace → RecordModel Reading → Option WatchFault

@@ -1,5 +1,6 @@
 // Margins as text, exactly.
-ghost use Rattle.std.specs.Prelude.{◌≡◌, ◌*◌, ◌^◌, ◌<◌};
+ghost use Rattle.std.specs.Prelude.{◌≡◌, ◌*◌, ◌^◌, ◌<◌, Some};
+ghost use Rattle.desk.specs.Amounts.{amount_text, decimals_of, unit_text};
 
 use std::fmt;
 
@@ -13,6 +14,8 @@ pub enum Unit {
 }
 
 impl fmt::Display for Unit {
+    ghost output = { λ unit. Some (unit_text unit) };
+
     fn fmt<W: fmt::Write>(&self, f: &mut fmt::Formatter<W>) -> fmt::Result {
         f.write_str(match *self {
             Unit::Count => "counts",
@@ -45,7 +48,8 @@ const PER_STEP: u32 = 390_625;
 // So many 256ths as a decimal fraction that ends with no nought.
 fn fraction_of(parts: u32) -> Fraction
     requires { parts < 256 }
-    ensures { result.digits * 256 ≡ parts * 10 ^ result.places }
+    ensures exact { result.digits * 256 ≡ parts * 10 ^ result.places }
+    ensures shortest { result ≡ decimals_of parts }
 {
     let mut digits = parts * PER_STEP;
     let mut places = PLACES;
@@ -57,6 +61,8 @@ fn fraction_of(parts: u32) -> Fraction
 }
 
 impl fmt::Display for Amount {
+    ghost output = { λ amount. Some (amount_text amount) };
+
     fn fmt<W: fmt::Write>(&self, f: &mut fmt::Formatter<W>) -> fmt::Result {
         if self.unit == Unit::Count {
             return self.steps.fmt(f);

@@ -1,7 +1,9 @@
 // What a rule comes to at one poll, and who is told of it.
 ghost use Rattle.std.specs.Prelude.{◌≡◌, ℕ, ◌+◌, ◌<◌, IfErr, OnOk, nat_lt, unsigned_abs};
+ghost use Rattle.desk.specs.Tables.{verdict_text};
 ghost use Rattle.desk.specs.Told.{IsOutside};
 ghost use Rattle.desk.specs.declared.answered.Answered.{Answered};
+ghost use Rattle.desk.specs.declared.trouble.Trouble.{Trouble};
 
 use crate::trouble::Trouble;
 
@@ -26,17 +28,23 @@ impl Answered {
 }
 
 // The word for a verdict.
-pub(crate) fn verdict_word(yes: bool) -> &'static str {
+pub(crate) fn verdict_word(yes: bool) -> &'static str
+    ensures { result.now ≡ verdict_text yes }
+{
     if yes { "yes" } else { "no" }
 }
 
 // Who hears the answers of a rule, one after another.
 pub trait Listener {
-    // It has heard the first so many of the answers that a function gives by their polls.
-    ghost heard: { Self → ℕ → (ℕ → Answered) → Type 0 };
+    // What it was has become what it is by hearing the first so many of the answers that a function gives by their polls.
+    ghost heard: { Self → Self → ℕ → (ℕ → Answered) → Type 0 };
+
+    // What may stop it.
+    ghost stops: { Trouble → Type 0 };
 
     // Hears one answer more. It may fail for want of memory or of a place to write, and refuses none.
     fn hear(&mut self, answered: Answered) -> Result<(), Trouble>
         ensures outside { IfErr result IsOutside }
-        ensures heard { OnOk result ((answers : ℕ → Answered) (n : ℕ) → n < 16777216 → answered ≡ answers n → heard self.old n answers → heard self.new (n + 1) answers) };
+        ensures stops { IfErr result stops }
+        ensures heard { OnOk result ((first : Self) (answers : ℕ → Answered) (n : ℕ) → n < 16777216 → answered ≡ answers n → heard first self.old n answers → heard first self.new (n + 1) answers) };
 }

@@ -90,7 +90,7 @@ impl<'a, S: Measured + Copy, R: Record<Reading = S::Reading>> Soak<'a, S, R> {
     ) -> Result<(), Trouble>
         requires cells { cells_of rule.now ≤ length cells.old }
         requires verdict_cells { cells_of rule.now ≤ length verdict_cells.old }
-        ensures told { TellsFirst (record_fault (S.model self.now.scale) rule.now (R.Record.model self.now.«record».now)) result }
+        ensures told { TellsFirst L.stops (record_fault (S.model self.now.scale) rule.now (R.Record.model self.now.«record».now)) result }
         ensures heard { OnOk result (Hears L.heard (answers_of (S.model self.now.scale) rule.now (R.Record.model self.now.«record».now)) (polls_of (formula rule.now) (R.Record.model self.now.«record».now)) listener.old listener.new) }
     {
         let mut pair = Pair {
@@ -114,7 +114,7 @@ impl<'a, S: Measured + Copy, R: Record<Reading = S::Reading>> Soak<'a, S, R> {
         listener: &mut L,
         progress: &mut P,
     ) -> Result<(), Trouble>
-        ensures told { TellsFirst (record_fault (S.model self.now.scale) rule.now (R.Record.model self.now.«record».now)) result }
+        ensures told { TellsFirst L.stops (record_fault (S.model self.now.scale) rule.now (R.Record.model self.now.«record».now)) result }
         ensures heard { OnOk result (Hears L.heard (answers_of (S.model self.now.scale) rule.now (R.Record.model self.now.«record».now)) (polls_of (formula rule.now) (R.Record.model self.now.«record».now)) listener.old listener.new) }
     {
         let need = rule.need();

@@ -1,6 +1,9 @@
 // One rule's margins as a table: a line per answered poll, values parted by commas.
-ghost use Rattle.desk.specs.Rows.{place_fault};
-ghost use Rattle.desk.specs.Told.{TellsFirst};
+ghost use Rattle.std.specs.Prelude.{◌≡◌, OnOk};
+ghost use Rattle.std.specs.Fmt.{WritesInCalls};
+ghost use Rattle.desk.specs.Rows.{place_answers, place_fault, place_polls};
+ghost use Rattle.desk.specs.Tables.{lines_text, table_text};
+ghost use Rattle.desk.specs.Told.{IsNothing, IsOutput, OnRefused, TellsFirst};
 
 use crate::amount::{Amount, Unit};
 use crate::answered::{Answered, Listener, verdict_word};
@@ -17,7 +20,9 @@ use std::fmt;
 struct Unheard;
 
 impl Listener for Unheard {
-    ghost heard = { λ _ _ _. Unit {0} };
+    ghost heard = { λ _ _ _ _. Unit {0} };
+
+    ghost stops = { IsNothing };
 
     fn hear(&mut self, _answered: Answered) -> Result<(), Trouble> {
         Ok(())
@@ -26,13 +31,32 @@ impl Listener for Unheard {
 
 // Writes a line for each answer.
 #[derive(Drop)]
-struct Lines<'w, W> {
-    out: &'w mut W,
+struct Lines<W> {
+    out: W,
     unit: Unit,
 }
 
-impl<'w, W: fmt::Write> Listener for Lines<'w, W> {
-    ghost heard = { λ _ _ _. Unit {0} };
+impl<W: fmt::Write> Lines<W> {
+    // No line yet, over this writer.
+    fn over(out: W, unit: Unit) -> Lines<W>
+        ensures out { result.out ≡ out }
+        ensures unit { result.unit ≡ unit }
+    {
+        Lines { out, unit }
+    }
+
+    // The writer again.
+    fn into_out(self) -> W
+        ensures { result ≡ self.out }
+    {
+        self.out
+    }
+}
+
+impl<W: fmt::Write> Listener for Lines<W> {
+    ghost heard = { λ first lines n answers. WritesInCalls W.write_str_gives first.out (lines_text lines.unit answers n) lines.out × (lines.unit ≡ first.unit) };
+
+    ghost stops = { IsOutput };
 
     fn hear(&mut self, answered: Answered) -> Result<(), Trouble> {
         let Answered { poll, margin, yes } = answered;
@@ -55,16 +79,18 @@ impl<'a, S: Measured + Copy, R: Record<Reading = S::Reading>> Soak<'a, S, R> {
         out: &mut W,
         progress: &mut P,
     ) -> Result<(), Trouble>
-        ensures { TellsFirst (place_fault (S.model self.now.scale) place.now (R.Record.model self.now.«record».now)) result }
+        ensures told { TellsFirst IsOutput (place_fault (S.model self.now.scale) place.now (R.Record.model self.now.«record».now)) result }
+        ensures unwritten { OnRefused result (out.new ≡ out.old) }
+        ensures table { OnOk result (WritesInCalls W.write_str_gives out.old (table_text S.told_in (place_answers (S.model self.now.scale) place.now (R.Record.model self.now.«record».now)) (place_polls place.now (R.Record.model self.now.«record».now))) out.new) }
     {
         let rule = place.rule();
         progress.begin(place.rule_number);
         self.follow(&rule, &mut Unheard, progress)?;
         writeln!(out, "poll,margin,verdict")?;
-        let mut lines = Lines {
-            out,
-            unit: self.scale.unit(),
-        };
-        self.follow(&rule, &mut lines, progress)
+        let mut lines = Lines::over(out, self.scale.unit());
+        self.follow(&rule, &mut lines, progress)?;
+        // No effect at run time: what it gives back is what the table is promised of.
+        lines.into_out();
+        Ok(())
     }
 }

@@ -5,7 +5,7 @@ ghost use Rattle.rules.specs.Rules.{formula};
 ghost use Rattle.desk.specs.declared.answered.Answered.{Answered};
 ghost use Rattle.desk.specs.Answers.{answers_of, polls_of, record_fault};
 ghost use Rattle.desk.specs.Summaries.{Tallied, Summarizes, IsOutcome};
-ghost use Rattle.desk.specs.Told.{TellsFirst};
+ghost use Rattle.desk.specs.Told.{TellsFirst, IsNothing};
 
 use crate::answered::{Answered, Listener};
 use crate::measured::Measured;
@@ -74,7 +74,9 @@ pub(crate) struct Tally {
 }
 
 impl Listener for Tally {
-    ghost heard = { λ tally n answers. Tallied answers n tally.summary };
+    ghost heard = { λ _ tally n answers. Tallied answers n tally.summary };
+
+    ghost stops = { IsNothing };
 
     fn hear(&mut self, answered: Answered) -> Result<(), Trouble> {
         self.summary = Some(match self.summary {
@@ -100,7 +102,7 @@ impl<'a, S: Measured + Copy, R: Record<Reading = S::Reading>> Soak<'a, S, R> {
 
     // What a rule comes to over the soak.
     pub fn outcome<P: Progress>(&self, rule: &Rule, progress: &mut P) -> Result<Outcome, Trouble>
-        ensures told { TellsFirst (record_fault (S.model self.now.scale) rule.now (R.Record.model self.now.«record».now)) result }
+        ensures told { TellsFirst IsNothing (record_fault (S.model self.now.scale) rule.now (R.Record.model self.now.«record».now)) result }
         ensures outcome { IfOk result (IsOutcome (answers_of (S.model self.now.scale) rule.now (R.Record.model self.now.«record».now)) (horizon (formula rule.now)) (R.Record.model self.now.«record».now).polls) }
     {
         let mut tally = Tally { summary: None };

@@ -1,7 +1,10 @@
 // The report: one row per rule of a sheet.
-ghost use Rattle.std.specs.Prelude.{◌≡◌, IfErr, IfOk};
+ghost use Rattle.std.specs.Prelude.{◌≡◌, ℕ, List, ◌++◌, IfErr, IfOk, OnOk, codes};
+ghost use Rattle.std.specs.Fmt.{WritesInCalls};
+ghost use Rattle.desk.specs.Amounts.{amount_of};
+ghost use Rattle.desk.specs.Reports.{IsReport, row_text, smallest_text, summary_text};
 ghost use Rattle.desk.specs.Rows.{IsRow, place_fault, sheet_fault, smaller_of};
-ghost use Rattle.desk.specs.Told.{IsOutside, TellsFirst};
+ghost use Rattle.desk.specs.Told.{IsNothing, IsOutput, IsOutside, TellsFirst};
 
 use crate::amount::Amount;
 use crate::answered::{Answered, verdict_word};
@@ -55,7 +58,7 @@ const COLUMNS: &str =
 impl<'a, S: Measured + Copy, R: Record<Reading = S::Reading>> Soak<'a, S, R> {
     // What the report tells of a rule.
     pub fn row<P: Progress>(&self, place: &RulePlace, progress: &mut P) -> Result<RuleRow, Trouble>
-        ensures told { TellsFirst (place_fault (S.model self.now.scale) place.now (R.Record.model self.now.«record».now)) result }
+        ensures told { TellsFirst IsNothing (place_fault (S.model self.now.scale) place.now (R.Record.model self.now.«record».now)) result }
         ensures row { IfOk result (IsRow (S.model self.now.scale) place.now (R.Record.model self.now.«record».now)) }
     {
         let rule = place.rule();
@@ -69,7 +72,9 @@ impl<'a, S: Measured + Copy, R: Record<Reading = S::Reading>> Soak<'a, S, R> {
     }
 
     // A margin of so many steps in the scale's unit.
-    pub(crate) fn amount(&self, steps: i32) -> Amount {
+    pub(crate) fn amount(&self, steps: i32) -> Amount
+        ensures { result ≡ amount_of S.told_in steps }
+    {
         Amount {
             steps,
             unit: self.scale.unit(),
@@ -78,7 +83,8 @@ impl<'a, S: Measured + Copy, R: Record<Reading = S::Reading>> Soak<'a, S, R> {
 
     // The columns of a rule with answers.
     fn write_summary<W: fmt::Write>(&self, out: &mut W, summary: &Summary) -> Result<(), Trouble>
-        ensures { IfErr result IsOutside }
+        ensures outside { IfErr result IsOutside }
+        ensures text { OnOk result (WritesInCalls W.write_str_gives out.old (summary_text S.told_in summary.now) out.new) }
     {
         let Summary {
             polls,
@@ -100,7 +106,8 @@ impl<'a, S: Measured + Copy, R: Record<Reading = S::Reading>> Soak<'a, S, R> {
 
     // One line of the report.
     fn write_row<W: fmt::Write>(&self, out: &mut W, row: &RuleRow) -> Result<(), Trouble>
-        ensures { IfErr result IsOutside }
+        ensures outside { IfErr result IsOutside }
+        ensures text { OnOk result (WritesInCalls W.write_str_gives out.old (row_text S.told_in row.now) out.new) }
     {
         let RuleRow {
             rule_number,
@@ -118,11 +125,9 @@ impl<'a, S: Measured + Copy, R: Record<Reading = S::Reading>> Soak<'a, S, R> {
     }
 
     // The last line of the report.
-    fn write_smallest<W: fmt::Write>(
-        &self,
-        out: &mut W,
-        smallest: Option<Smallest>,
-    ) -> fmt::Result {
+    fn write_smallest<W: fmt::Write>(&self, out: &mut W, smallest: Option<Smallest>) -> fmt::Result
+        ensures { OnOk result (WritesInCalls W.write_str_gives out.old (codes "\n" ++ smallest_text S.told_in smallest) out.new) }
+    {
         writeln!(out)?;
         let Some(
             Smallest {
@@ -153,7 +158,8 @@ impl<'a, S: Measured + Copy, R: Record<Reading = S::Reading>> Soak<'a, S, R> {
         out: &mut W,
         progress: &mut P,
     ) -> Result<(), Trouble>
-        ensures { TellsFirst (sheet_fault (S.model self.now.scale) places.now (R.Record.model self.now.«record».now)) result }
+        ensures told { TellsFirst IsOutput (sheet_fault (S.model self.now.scale) places.now (R.Record.model self.now.«record».now)) result }
+        ensures report { OnOk result ((text : List ℕ) × IsReport (S.model self.now.scale) S.told_in places.now (R.Record.model self.now.«record».now) text × WritesInCalls W.write_str_gives out.old text out.new) }
     {
         let unit = self.scale.unit();
         let polls = self.record.polls();

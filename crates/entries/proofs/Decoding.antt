@@ -99,7 +99,7 @@ stands e heads Both w r = rw w refl
 stands e heads (Window a b p) w r =
     rw (w.0, w.1, w.2, w.3) (cond-true _ _ _ (window_back a b p r))
 
-writes : (o : OperationModel) → Writes (entry_of o) o
+pub writes : (o : OperationModel) → Writes (entry_of o) o
 writes (HeadTest h s l) = (refl, refl, refl, refl)
 writes (ZoneTest k s l) = (refl, refl, refl, refl)
 writes Not = refl

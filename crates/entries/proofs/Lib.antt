@@ -2,6 +2,5 @@
 pub mod Bits
 pub mod Listing
 pub mod Adding
-pub mod Digits
 pub mod Decoding
 pub mod Walking

@@ -1,51 +1,65 @@
--- Taking the first of the heads from a number on leaves those after it. Assumes nothing.
-use Rattle.std.proofs.Common.{◌≡◌, ℕ, ◌+◌, ◌<◌, ◌≤◌, List, [], ◌∷◌, Some, None, refl, sym, ap, ◌∙◌, subst, ⊎_elim, arith}
-use Rattle.std.proofs.lemmas.Bool.{cases_lt, cond-true, cond-false, le-leb, lt-leb}
-use Rattle.std.specs.List.{AllByRecursion}
-use Rattle.entries.specs.Heads.{head_total, heads, first_from, Rising}
-use Rattle.entries.specs.Iter.{heads_from}
-use Rattle.entries.proofs.Listing.{all_low}
+-- The first head of a set is its lowest bit, and the set without that bit has the heads after it. Assumes nothing.
+use Rattle.std.proofs.Common.{◌≡◌, ◌≢◌, ℕ, zero, suc, ◌-◌, ◌/◌, ◌^◌, ◌<◌, cond, eqb, [], ◌∷◌, ◌++◌, refl, sym, ap, ◌∙◌, ap₂, ⊎_elim, arith}
+use lib.Bits.{bit_and, and_self}
+use mir.Syntax.{w64}
+use Rattle.std.specs.Int.{bit_at, trailing_zeros}
+use Rattle.std.proofs.lemmas.Nat.{and_shr, and_le_l}
+use Rattle.std.proofs.lemmas.Nat.Bits.{bit_at_lowest, bit_at-suc, bit_at-zero, bit_at_and, bit_at-trailing_zeros}
+use Rattle.std.proofs.lemmas.Bool.{cases_eq}
+use Rattle.entries.specs.Heads.{head_total, heads_below, heads}
 
--- where the first is not below n, all are left
-pub heads_all : (gs : List ℕ) → heads_from 0 gs ≡ gs
-heads_all [] = refl
-heads_all (g ∷ gs) = cond-true _ _ _ (le-leb 0 g (omega arith))
+-- ---- `n & (n - 1)` has the bits of n but the lowest
+-- t is the place of n's lowest bit
+abbrev IsLowest : ℕ → ℕ → Type 0
+IsLowest n t = (bit_at n t ≡ 1) × ((i : ℕ) → i < t → bit_at n i ≡ 0)
 
-past : (n : ℕ) (gs : List ℕ) → AllByRecursion (λ h. n < h) gs → heads_from (n + 1) gs ≡ gs
-past n [] a = refl
-past n (g ∷ gs) a = cond-true _ _ _ (le-leb (n + 1) g (omega (arith, a.0)))
+half_lowest : (n t : ℕ) → IsLowest n (suc t) → IsLowest (n / 2) t
+half_lowest n t is = (sym (bit_at-suc n t) ∙ is.0, λ i l. sym (bit_at-suc n i) ∙ is.1 (suc i) (omega arith))
 
-pub none_left : (n : ℕ) (gs : List ℕ) → None ≡ first_from n gs → heads_from n gs ≡ []
-none_left n [] e = refl
-none_left n (g ∷ gs) e =
-    ⊎_elim
-    (λ (q : g < n). cond-false _ _ _ (lt-leb n g q) ∙ none_left n gs (e ∙ cond-false _ _ _ (lt-leb n g q)))
-    (λ (q : n ≤ g). let bad : None ≡ Some g = e ∙ cond-true _ _ _ (le-leb n g q) in cc)
-    (cases_lt g n)
+-- the bits from place 1 on, where m is half of n - 1
+upper : (n m i : ℕ) → (n - 1) / 2 ≡ m → bit_at (bit_and n (n - 1)) (suc i) ≡ bit_at (bit_and (n / 2) m) i
+upper n m i e = bit_at-suc _ i ∙ ap (λ k. bit_at k i) (and_shr n (n - 1) 1 ∙ ap (bit_and (n / 2)) e)
 
--- the first head from n on is in the list, and not below n
-pub first_all : (P : ℕ → Type 0) (n g : ℕ) (gs : List ℕ) → AllByRecursion P gs → Some g ≡ first_from n gs → P g × (n ≤ g)
-first_all P n g [] a e = cc
-first_all P n g (k ∷ gs) a e =
-    ⊎_elim
-    (λ (q : k < n). first_all P n g gs a.1 (e ∙ cond-false _ _ _ (lt-leb n k q)))
-    (λ (q : n ≤ k). let both : Some g ≡ Some k = e ∙ cond-true _ _ _ (le-leb n k q) in let same : g ≡ k = cc in rw same (a.0, q))
-    (cases_lt k n)
+upper_even : (n t i : ℕ) → IsLowest n (suc t) → bit_at (bit_and n (n - 1)) (suc i) ≡ bit_at (bit_and (n / 2) (n / 2 - 1)) i
+upper_even n t i is = upper n (n / 2 - 1) i (omega (arith, bit_at_lowest n, is.1 0 (omega arith)))
 
-pub first_low : (z n g : ℕ) → Some g ≡ first_from n (heads z) → g < head_total
-first_low z n g e = (first_all (λ h. h < head_total) n g (heads z) (all_low z) e).0
+cleared : (n t : ℕ) → IsLowest n t → bit_at (bit_and n (n - 1)) t ≡ 0
+cleared n zero is = bit_at_and n (n - 1) 0 ∙ omega (arith, is.0, bit_at_lowest n, bit_at_lowest (n - 1))
+cleared n (suc t) is = upper_even n t t is ∙ cleared (n / 2) t (half_lowest n t is)
 
--- it is taken, and those after it are left
-pub first_left : (n g : ℕ) (gs : List ℕ) → Rising gs → Some g ≡ first_from n gs → heads_from n gs ≡ g ∷ heads_from (g + 1) gs
-first_left n g [] r e = cc
-first_left n g (k ∷ gs) r e =
-    ⊎_elim
-    (λ (q : k < n).
-    let rest : Some g ≡ first_from n gs = e ∙ cond-false _ _ _ (lt-leb n k q) in
-    let late : k < g = (first_all (λ h. k < h) n g gs r.0 rest).0 in
-    cond-false _ _ _ (lt-leb n k q) ∙ first_left n g gs r.1 rest ∙ ap (λ hs. g ∷ hs) (sym (cond-false _ _ _ (lt-leb (g + 1) k (omega arith)))))
-    (λ (q : n ≤ k).
-    let both : Some g ≡ Some k = e ∙ cond-true _ _ _ (le-leb n k q) in
-    let same : g ≡ k = cc in
-    subst (λ m. heads_from n (k ∷ gs) ≡ m ∷ heads_from (m + 1) (k ∷ gs)) (sym same) (cond-true _ _ _ (le-leb n k q) ∙ ap (λ hs. k ∷ hs) (sym (cond-false _ _ _ (lt-leb (k + 1) k (omega arith)) ∙ past k gs r.0))))
-    (cases_lt k n)
+kept : (n t i : ℕ) → IsLowest n t → i ≢ t → bit_at (bit_and n (n - 1)) i ≡ bit_at n i
+kept n zero zero is apart = absurd (apart refl)
+kept n zero (suc i) is apart = upper n (n / 2) i (omega (arith, bit_at_lowest n, is.0)) ∙ ap (λ k. bit_at k i) (and_self (n / 2)) ∙ sym (bit_at-suc n i)
+kept n (suc t) zero is apart = bit_at_and n (n - 1) 0 ∙ omega (arith, is.1 0 (omega arith))
+kept n (suc t) (suc i) is apart = upper_even n t i is ∙ kept (n / 2) t i (half_lowest n t is) (λ e. apart (ap suc e)) ∙ sym (bit_at-suc n i)
+
+-- ---- the heads
+none_below : (z n : ℕ) → ((i : ℕ) → i < n → bit_at z i ≡ 0) → heads_below z n ≡ []
+unfolding heads_below
+none_below z zero none = refl
+none_below z (suc n) none = ap₂ (λ gs b. gs ++ cond (eqb b 1) (n ∷ []) []) (none_below z n (λ i l. none i (omega arith))) (none n (omega arith))
+
+module _ (z t : ℕ) (is : IsLowest z t) where
+  first_below : (n : ℕ) → t < n → heads_below z n ≡ t ∷ heads_below (bit_and z (z - 1)) n
+  unfolding heads_below
+  first_below zero l = absurd (omega arith)
+  first_below (suc n) l = ⊎_elim here (λ (d : n ≡ t → ⊥). later d (first_below n (omega arith))) (cases_eq n t)
+    where
+      here : n ≡ t → heads_below z (suc n) ≡ t ∷ heads_below (bit_and z (z - 1)) (suc n)
+      here e =
+          rw e (ap₂ (λ gs b. gs ++ cond (eqb b 1) (t ∷ []) []) (none_below z t is.1) is.0
+          ∙ sym (ap₂ (λ gs b. t ∷ (gs ++ cond (eqb b 1) (t ∷ []) [])) (none_below _ t (λ i m. kept z t i is (omega arith) ∙ is.1 i m)) (cleared z t is)))
+
+      later : (n ≡ t → ⊥) → heads_below z n ≡ t ∷ heads_below (bit_and z (z - 1)) n → heads_below z (suc n) ≡ t ∷ heads_below (bit_and z (z - 1)) (suc n)
+      later d before = ap₂ (λ gs b. gs ++ cond (eqb b 1) (n ∷ []) []) before (sym (kept z t n is d))
+
+pub no_heads : (z : ℕ) → z ≡ 0 → heads z ≡ []
+unfolding heads
+no_heads z e = rw e (none_below 0 head_total (λ i l. bit_at-zero i))
+
+pub first_head : (z : ℕ) → 0 < z → z < 2 ^ head_total → heads z ≡ trailing_zeros w64 z ∷ heads (bit_and z (z - 1))
+unfolding heads
+first_head z some small = let t = bit_at-trailing_zeros w64 z some small in first_below z (trailing_zeros w64 z) (t.1, t.2) head_total t.0
+
+pub fewer_fit : (z : ℕ) → z < 2 ^ head_total → bit_and z (z - 1) < 2 ^ head_total
+fewer_fit z small = omega (arith, and_le_l z (z - 1))

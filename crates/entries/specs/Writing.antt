@@ -29,13 +29,17 @@ pub record Decoded (e : Entry) (heads : ℕ) : Type 0 where
   pub in_range : (o : OperationModel) → operation_of e heads ≡ Some o → InRange heads o
   pub stands : (o : OperationModel) → Writes e o → InRange heads o → operation_of e heads ≡ Some o
 
+-- the entry of a kind that has no field
+abbrev pub plain_entry : ℕ → Entry
+plain_entry kind = record { kind = kind; head = 0; k = 0; sense = 0; limit = pos 0; first = 0; last = 0; share = 0 }
+
 -- the entry that writes an operation, with 0 in the fields that its kind does not have
 abbrev pub entry_of : OperationModel → Entry
 entry_of (HeadTest h s l) = record { kind = 16; head = h; k = 0; sense = sense_number s; limit = l; first = 0; last = 0; share = 0 }
 entry_of (ZoneTest k s l) = record { kind = 17; head = 0; k = k; sense = sense_number s; limit = l; first = 0; last = 0; share = 0 }
-entry_of Not = record { kind = 18; head = 0; k = 0; sense = 0; limit = pos 0; first = 0; last = 0; share = 0 }
-entry_of Either = record { kind = 19; head = 0; k = 0; sense = 0; limit = pos 0; first = 0; last = 0; share = 0 }
-entry_of Both = record { kind = 20; head = 0; k = 0; sense = 0; limit = pos 0; first = 0; last = 0; share = 0 }
+entry_of Not = plain_entry 18
+entry_of Either = plain_entry 19
+entry_of Both = plain_entry 20
 entry_of (Window a b p) = record { kind = 21; head = 0; k = 0; sense = 0; limit = pos 0; first = a; last = b; share = p }
 
 -- the entry is the one that writes the operation, and stands for it wherever its values are in range

@@ -3,7 +3,7 @@ ghost use Rattle.std.specs.Prelude.{◌≡◌};
 ghost use Rattle.std.specs.Option.{option_map};
 ghost use Rattle.entries.specs.Decode.{test_of, test_model, fair_rank, fair_window, head_test_of, fair_zone_test, window_of, operation_of};
 ghost use Rattle.entries.specs.Operations.{model};
-ghost use Rattle.entries.specs.Writing.{Decoded};
+ghost use Rattle.entries.specs.Writing.{Decoded, plain_entry};
 
 use crate::entry::Entry;
 use crate::kind::Kind;
@@ -66,11 +66,13 @@ impl Entry {
         })
     }
 
-    // The operation in a zone of so many heads; none where the kind or a field, head apart, is out of range.
+    // The operation in a zone of so many heads; none where the kind or a field, head apart, is out of range. `blank` is of
+    // `Entry::BLANK`, since a constant has no contract of its own.
     #[tactic(auto, using(crate::proofs::Decoding::decoded))]
     pub fn operation(self, heads: usize) -> Option<Operation>
         ensures value { option_map model result ≡ operation_of self heads }
         ensures decoded { Decoded self heads }
+        ensures blank { Entry.BLANK ≡ plain_entry 0 }
     {
         match Kind::try_from(self.kind).ok()? {
             Kind::HeadTest => self.head_test(),

@@ -1,7 +1,7 @@
 // Sets of heads.
 ghost use Rattle.std.specs.Prelude.{◌≡◌, ◌^◌, ◌<◌, ◌≤◌, [], ◌∷◌, ◌++◌, length, MatchOption, bit_or};
 ghost use Rattle.formulas.specs.Formula.{among};
-ghost use Rattle.entries.specs.Heads.{head_total, heads as heads_of, SameHeads, first_from, Rising, SomeAbove};
+ghost use Rattle.entries.specs.Heads.{head_total, heads as heads_of, SameHeads, SomeAbove};
 
 // Heads are numbered from 0 to one below this.
 pub const HEADS: u8 = 64;
@@ -89,16 +89,17 @@ impl HeadSet {
         self.bits.count_ones() as usize
     }
 
-    // The first head at or after one, so that all are met in rising order; none where no more is in the set.
-    #[tactic(auto, using(crate::proofs::Digits::next_is, crate::proofs::Digits::next_past, crate::proofs::Listing::rising))]
-    pub fn next(self, from: u8) -> Option<u8>
-        ensures value { result ≡ first_from from (heads_of self.bits) }
-        ensures rising { Rising (heads_of self.bits) }
+    // Its lowest head and the set of the others; none where it has no head.
+    #[tactic(auto, using(crate::proofs::Walking::no_heads, crate::proofs::Walking::first_head, crate::proofs::Walking::fewer_fit))]
+    pub(crate) fn split_first(self) -> Option<(u8, HeadSet)>
+        ensures { MatchOption result (heads_of self.bits ≡ []) (λ s. heads_of self.bits ≡ s.0 ∷ heads_of s.1.bits) }
     {
-        if from >= HEADS {
+        if self.bits == 0 {
             return None;
         }
-        let ahead = (self.bits >> from).trailing_zeros();
-        (ahead < u64::BITS).then_some(from + ahead as u8)
+        let others = HeadSet {
+            bits: self.bits & (self.bits - 1),
+        };
+        Some((self.bits.trailing_zeros() as u8, others))
     }
 }

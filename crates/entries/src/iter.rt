@@ -1,7 +1,7 @@
 // The heads of a set, one after another.
 ghost use Rattle.std.specs.Prelude.{◌≡◌};
 ghost use Rattle.std.specs.Iterator.{YieldsFirst, item_count};
-ghost use Rattle.entries.specs.Heads.{heads};
+ghost use Rattle.entries.specs.Heads.{heads, Rising};
 ghost use Rattle.entries.specs.Iter.{heads_left};
 
 use crate::heads::HeadSet;
@@ -9,8 +9,7 @@ use crate::heads::HeadSet;
 // The heads of a set that are still to come, in rising order.
 #[derive(Clone, Debug, Drop)]
 pub struct Heads {
-    set: HeadSet,
-    from: u8,
+    left: HeadSet,
 }
 
 impl Iterator for Heads {
@@ -20,21 +19,21 @@ impl Iterator for Heads {
 
     ghost remaining = { item_count heads_left };
 
-    #[tactic(auto, using(crate::proofs::Walking::none_left, crate::proofs::Walking::first_left, crate::proofs::Walking::first_low))]
     fn next(&mut self) -> Option<u8> {
-        let head = self.set.next(self.from)?;
-        self.from = head + 1;
+        let (head, left) = self.left.split_first()?;
+        self.left = left;
         Some(head)
     }
 }
 
 impl HeadSet {
     // All its heads, in rising order.
-    #[tactic(auto, using(crate::proofs::Walking::heads_all))]
+    #[tactic(auto, using(crate::proofs::Listing::rising))]
     pub fn iter(self) -> Heads
-        ensures { heads_left result ≡ heads self.bits }
+        ensures all { heads_left result ≡ heads self.bits }
+        ensures rising { Rising (heads self.bits) }
     {
-        Heads { set: self, from: 0 }
+        Heads { left: self }
     }
 }
 

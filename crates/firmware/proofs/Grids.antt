@@ -1,5 +1,5 @@
 -- A play for the rule and the grid that were made of what C lends. Assumes nothing.
-use Rattle.std.proofs.Common.{◌≡◌, ℕ, List, length, ℤ, None, Ok, sym, subst}
+use Rattle.std.proofs.Common.{◌≡◌, ℕ, List, length, ℤ, Option, None, Ok, sym, subst}
 use Rattle.std.specs.Prelude.{MatchResult, MatchOption}
 use Rattle.entries.specs.declared.entry.Entry.{Entry}
 use Rattle.records.specs.Faults.{record_ground}
@@ -14,7 +14,7 @@ use Rattle.firmware.specs.Refusals.{refused}
 use Rattle.firmware.specs.Made.{RuleOf}
 use Rattle.firmware.specs.declared.plays.Play.{Play}
 
-pub grid_played : {Reading Margin Told : Type 0} (sm : ScaleModel Reading Margin) (whole : Told → ℤ) (hs : List ℕ) (es : List Entry) (heads count : ℕ) (xs : List Reading) (cells cells' : List ℤ) (list list' : List Told) (r : Play) (rule : Rule) (rm : RecordModel Reading)
+pub grid_played : {Reading Margin Told : Type 0} (sm : ScaleModel Reading Margin) (whole : Told → Option ℤ) (hs : List ℕ) (es : List Entry) (heads count : ℕ) (xs : List Reading) (cells cells' : List ℤ) (list list' : List Told) (r : Play) (rule : Rule) (rm : RecordModel Reading)
     → RuleOf hs es (Ok rule) → grid_fault heads count (length xs) ≡ None → rm ≡ grid_record heads count xs → Played sm whole rule rm cells cells' list list' r → GridPlayed sm whole hs es heads count xs cells cells' list list' r
 grid_played sm whole hs es heads count xs cells cells' list list' r rule rm made fits is played =
     subst (λ a.

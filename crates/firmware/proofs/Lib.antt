@@ -4,3 +4,4 @@ mod InCells
 mod Latest
 mod Lists
 mod Playing
+mod Ranges

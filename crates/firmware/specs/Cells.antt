@@ -3,19 +3,19 @@ use Rattle.std.specs.Prelude.{ℕ, ℤ}
 use Rattle.scales.specs.Model.{ScaleModel}
 use Rattle.scales.specs.Order.{clipped}
 
--- the largest size of a margin that firmware asks for: that of an obscuration margin, in steps
-abbrev pub most_whole : ℕ
-most_whole = 2097152
+-- the largest size of an obscuration margin, in steps
+abbrev pub most_steps : ℕ
+most_steps = 2097152
 
--- a cell stands for its number, brought into the range of margins
-abbrev pub cell_whole : ℤ → ℤ
-cell_whole z = clipped most_whole z
+-- a cell stands for its number, clipped to -most to most, a range that holds all margins of the scale
+abbrev pub cell_whole : ℕ → ℤ → ℤ
+cell_whole most z = clipped most z
 
 -- the lower scale, with cells in the place of its margins
-abbrev pub in_cells : {R M : Type 0} → ScaleModel R M → ScaleModel R ℤ
-in_cells lower = record {
+abbrev pub in_cells : {R M : Type 0} → ℕ → ScaleModel R M → ScaleModel R ℤ
+in_cells most lower = record {
   steps = lower.steps;
-  whole = cell_whole;
+  whole = cell_whole most;
   mark = lower.mark;
   reach = lower.reach;
   close = lower.close;

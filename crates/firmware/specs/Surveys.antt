@@ -28,13 +28,13 @@ abbrev pub of_grid : {A : Type 0} → Option RecordFault → Result A Refusal �
 of_grid None answer = answer
 of_grid (Some f) answer = Err (refused (record_ground f))
 
--- what a watch or a survey answers, with its refusal in C's numbers
-abbrev pub of_watch : {A : Type 0} → Result A WatchFault → Result A Refusal
-of_watch (Ok m) = Ok m
+-- what a survey answers, as C is to be told it: just that whole number, or the refusal in C's numbers
+abbrev pub of_watch : {A : Type 0} → Result A WatchFault → Result (Option A) Refusal
+of_watch (Ok m) = Ok (Some m)
 of_watch (Err f) = Err (refused (watch_ground f))
 
--- the margin at poll t of the grid, or the first refusal: of the rule, of the grid, of the survey
-abbrev pub grid_survey : {Reading Margin : Type 0} → ScaleModel Reading Margin → List ℕ → List Entry → ℕ → ℕ → List Reading → ℕ → ℕ → Result ℤ Refusal
+-- the margin at poll t of the grid, to be told exactly, or the first refusal: of the rule, of the grid, of the survey
+abbrev pub grid_survey : {Reading Margin : Type 0} → ScaleModel Reading Margin → List ℕ → List Entry → ℕ → ℕ → List Reading → ℕ → ℕ → Result (Option ℤ) Refusal
 grid_survey sm zone es heads polls xs lent t =
     of_rule (assemble zone es) (λ φ. of_grid (grid_fault heads polls (length xs)) (of_watch (surveyed_of sm zone φ (grid_record heads polls xs) lent t)))
 
@@ -45,8 +45,8 @@ cells_needed zone es = of_rule (assemble zone es) (λ φ. Ok (need zone φ))
 abbrev pub polls_ahead : List ℕ → List Entry → Result ℕ Refusal
 polls_ahead zone es = of_rule (assemble zone es) (λ φ. Ok (horizon φ))
 
--- an answer with its margin as a whole number
-abbrev pub told_whole : {Told : Type 0} → (Told → ℤ) → Result Told Refusal → Result ℤ Refusal
+-- an answer with the whole number that its margin tells exactly; none where it tells none
+abbrev pub told_whole : {Told : Type 0} → (Told → Option ℤ) → Result Told Refusal → Result (Option ℤ) Refusal
 told_whole whole (Ok m) = Ok (whole m)
 told_whole whole (Err r) = Err r
 
@@ -67,7 +67,7 @@ pub record Kept {M : Type 0} (needed : Result ℕ Refusal) (refused : Bool) (cel
   pub untouched : refused ≡ true → cells' ≡ cells
 
 -- an answer told in C's numbers: the refusal, or none and the margin; the margin of a refused survey is 0
-pub record Surveyed (answer : Result ℤ Refusal) (needed : Result ℕ Refusal) (refusal : Refusal) (margin : ℤ) (cells cells' : List ℤ) : Type 0 where
+pub record Surveyed (answer : Result (Option ℤ) Refusal) (needed : Result ℕ Refusal) (refusal : Refusal) (margin : Option ℤ) (cells cells' : List ℤ) : Type 0 where
   pub refusal_told : refusal ≡ refusal_of answer
-  pub margin_told : margin ≡ value_or (pos 0) answer
+  pub margin_told : margin ≡ value_or (Some (pos 0)) answer
   pub kept : Kept needed (is_err answer) cells cells'

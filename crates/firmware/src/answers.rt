@@ -1,6 +1,7 @@
 // What C is told: an answer and its refusal beside each other, since an enum does not cross.
-ghost use Rattle.std.specs.Prelude.{◌≡◌, ℤ, pos};
-ghost use Rattle.scales.specs.Grid.{grid_whole};
+ghost use Rattle.std.specs.Prelude.{◌≡◌, ℤ, pos, Some};
+ghost use Rattle.scales.specs.Grid.{grid_steps};
+ghost use Rattle.firmware.specs.Cells.{most_steps};
 ghost use Rattle.firmware.specs.Surveys.{told_whole, refusal_of, value_or};
 
 use crate::refusals::Refusal;
@@ -32,8 +33,8 @@ pub struct Need {
 
 impl CountSurvey {
     pub(crate) fn of(answer: Result<i32, Refusal>) -> CountSurvey
-        ensures refusal { result.refusal ≡ refusal_of (told_whole (λ (z : ℤ). z) answer) }
-        ensures margin { result.margin ≡ value_or (pos 0) (told_whole (λ (z : ℤ). z) answer) }
+        ensures refusal { result.refusal ≡ refusal_of (told_whole (λ (z : ℤ). Some z) answer) }
+        ensures margin { Some result.margin ≡ value_or (Some (pos 0)) (told_whole (λ (z : ℤ). Some z) answer) }
     {
         match answer {
             Ok(margin) => CountSurvey {
@@ -46,10 +47,10 @@ impl CountSurvey {
 }
 
 impl ObscurationSurvey {
-    #[tactic(auto, unfolding(scales::specs::Grid::grid_whole))]
+    #[tactic(auto, unfolding(scales::specs::Grid::grid_whole, scales::specs::Grid::on_grid))]
     pub(crate) fn of(answer: Result<f32, Refusal>) -> ObscurationSurvey
-        ensures refusal { result.refusal ≡ refusal_of (told_whole grid_whole answer) }
-        ensures margin { grid_whole result.margin ≡ value_or (pos 0) (told_whole grid_whole answer) }
+        ensures refusal { result.refusal ≡ refusal_of (told_whole (grid_steps most_steps) answer) }
+        ensures margin { grid_steps most_steps result.margin ≡ value_or (Some (pos 0)) (told_whole (grid_steps most_steps) answer) }
     {
         match answer {
             Ok(margin) => ObscurationSurvey {

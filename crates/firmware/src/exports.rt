@@ -1,10 +1,12 @@
-// The functions that C calls. Each is one call of the library's, over a rule, a grid and cells that C lends as numbers.
-ghost use Rattle.std.specs.Prelude.{◌≡◌, ℤ, length};
+// The functions that C calls: the need of a rule, a survey, or a play by a step and an ask for each poll, over a rule, a grid and
+// cells that C lends as numbers.
+ghost use Rattle.std.specs.Prelude.{◌≡◌, ℤ, Some, length};
 ghost use Rattle.entries.specs.Heads.{heads as heads_of};
 ghost use Rattle.scales.specs.Counts.{counts};
-ghost use Rattle.scales.specs.Grid.{grid_whole};
+ghost use Rattle.scales.specs.Grid.{grid_steps};
 ghost use Rattle.scales.specs.Obscuration.{obscuration};
 ghost use Rattle.scales.specs.Verdict.{verdict};
+ghost use Rattle.firmware.specs.Cells.{most_steps};
 ghost use Rattle.firmware.specs.Plays.{GridPlayed};
 ghost use Rattle.firmware.specs.Surveys.{grid_survey, cells_needed, polls_ahead, refusal_of, value_or, Surveyed};
 
@@ -47,7 +49,7 @@ pub extern "C" fn yiddolza_survey_counts(
     poll: u32,
     cells: &mut [i32],
 ) -> CountSurvey
-    ensures { Surveyed (grid_survey counts (heads_of zone) entries.now heads polls readings.now (length cells.old) poll) (cells_needed (heads_of zone) entries.now) result.refusal result.margin cells.old cells.new }
+    ensures { Surveyed (grid_survey counts (heads_of zone) entries.now heads polls readings.now (length cells.old) poll) (cells_needed (heads_of zone) entries.now) result.refusal (Some result.margin) cells.old cells.new }
 {
     let lent = Lent {
         entries,
@@ -70,7 +72,7 @@ pub extern "C" fn yiddolza_survey_obscuration(
     poll: u32,
     cells: &mut [i32],
 ) -> ObscurationSurvey
-    ensures { Surveyed (grid_survey obscuration (heads_of zone) entries.now heads polls readings.now (length cells.old) poll) (cells_needed (heads_of zone) entries.now) result.refusal (grid_whole result.margin) cells.old cells.new }
+    ensures { Surveyed (grid_survey obscuration (heads_of zone) entries.now heads polls readings.now (length cells.old) poll) (cells_needed (heads_of zone) entries.now) result.refusal (grid_steps most_steps result.margin) cells.old cells.new }
 {
     let lent = Lent {
         entries,
@@ -93,7 +95,7 @@ pub extern "C" fn yiddolza_survey_count_verdict(
     poll: u32,
     cells: &mut [i32],
 ) -> CountSurvey
-    ensures { Surveyed (grid_survey (verdict counts) (heads_of zone) entries.now heads polls readings.now (length cells.old) poll) (cells_needed (heads_of zone) entries.now) result.refusal result.margin cells.old cells.new }
+    ensures { Surveyed (grid_survey (verdict counts) (heads_of zone) entries.now heads polls readings.now (length cells.old) poll) (cells_needed (heads_of zone) entries.now) result.refusal (Some result.margin) cells.old cells.new }
 {
     let lent = Lent {
         entries,
@@ -116,7 +118,7 @@ pub extern "C" fn yiddolza_survey_obscuration_verdict(
     poll: u32,
     cells: &mut [i32],
 ) -> CountSurvey
-    ensures { Surveyed (grid_survey (verdict obscuration) (heads_of zone) entries.now heads polls readings.now (length cells.old) poll) (cells_needed (heads_of zone) entries.now) result.refusal result.margin cells.old cells.new }
+    ensures { Surveyed (grid_survey (verdict obscuration) (heads_of zone) entries.now heads polls readings.now (length cells.old) poll) (cells_needed (heads_of zone) entries.now) result.refusal (Some result.margin) cells.old cells.new }
 {
     let lent = Lent {
         entries,
@@ -139,7 +141,7 @@ pub extern "C" fn yiddolza_play_counts(
     cells: &mut [i32],
     margins: &mut [i32],
 ) -> Play
-    ensures { GridPlayed counts (λ (z : ℤ). z) (heads_of zone) entries.now heads polls readings.now cells.old cells.new margins.old margins.new result }
+    ensures { GridPlayed counts (λ (z : ℤ). Some z) (heads_of zone) entries.now heads polls readings.now cells.old cells.new margins.old margins.new result }
 {
     let lent = Lent {
         entries,
@@ -162,7 +164,7 @@ pub extern "C" fn yiddolza_play_obscuration(
     cells: &mut [i32],
     margins: &mut [f32],
 ) -> Play
-    ensures { GridPlayed obscuration grid_whole (heads_of zone) entries.now heads polls readings.now cells.old cells.new margins.old margins.new result }
+    ensures { GridPlayed obscuration (grid_steps most_steps) (heads_of zone) entries.now heads polls readings.now cells.old cells.new margins.old margins.new result }
 {
     let lent = Lent {
         entries,
@@ -185,7 +187,7 @@ pub extern "C" fn yiddolza_play_count_verdicts(
     cells: &mut [i32],
     verdicts: &mut [i32],
 ) -> Play
-    ensures { GridPlayed (verdict counts) (λ (z : ℤ). z) (heads_of zone) entries.now heads polls readings.now cells.old cells.new verdicts.old verdicts.new result }
+    ensures { GridPlayed (verdict counts) (λ (z : ℤ). Some z) (heads_of zone) entries.now heads polls readings.now cells.old cells.new verdicts.old verdicts.new result }
 {
     let lent = Lent {
         entries,
@@ -208,7 +210,7 @@ pub extern "C" fn yiddolza_play_obscuration_verdicts(
     cells: &mut [i32],
     verdicts: &mut [i32],
 ) -> Play
-    ensures { GridPlayed (verdict obscuration) (λ (z : ℤ). z) (heads_of zone) entries.now heads polls readings.now cells.old cells.new verdicts.old verdicts.new result }
+    ensures { GridPlayed (verdict obscuration) (λ (z : ℤ). Some z) (heads_of zone) entries.now heads polls readings.now cells.old cells.new verdicts.old verdicts.new result }
 {
     let lent = Lent {
         entries,

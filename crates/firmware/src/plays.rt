@@ -37,7 +37,7 @@ impl Play {
 
 // The margin of the latest poll that has all its rows.
 fn latest<S: Scale>(watch: &Watch<S>, cells: &[S::Margin]) -> Option<S::Margin>
-    ensures { (rest : List S.Margin) (rows : List Row) → Holds (S.Scale.model watch.now.scale) watch.now.rule watch.now.rows (cells.now ++ rest) rows → option_map (S.Scale.model watch.now.scale).whole result ≡ latest_margin (S.Scale.model watch.now.scale).mark watch.now.rule (length cells.now) rows }
+    ensures { (rest : List S.Margin) (rows : List Row) → Holds (S.Scale.model watch.now.scale) watch.now.rule watch.now.rows.count (cells.now ++ rest) rows → option_map (S.Scale.model watch.now.scale).whole result ≡ latest_margin (S.Scale.model watch.now.scale).mark watch.now.rule (length cells.now) rows }
 {
     match watch.ask(cells) {
         Ok(Answer::At { margin, .. }) => Some(margin),

@@ -39,6 +39,18 @@ module _ {sh : Shape} {lent i : ℕ} {node : NodeModel} {from to : ℕ} (at : At
   fits = (omega (arith, at.ends), omega (arith, run_ends sh i sh.count at.below, ap run_width at.is, at.ready.enough, at.begins, at.ends))
 
 -- ---- what leaves the window over entry j
+-- a window is no wider than the rings
+wide_node : (sh : Shape) (i : ℕ) (node : NodeModel) → Fair sh i node → sh.hz i < sh.ring → run_width node ≤ sh.ring
+wide_node sh i (HeadTest h s l) f near = omega arith
+wide_node sh i (ZoneTest k s l) f near = omega arith
+wide_node sh i (Not j) f near = omega arith
+wide_node sh i (Either j k) f near = omega arith
+wide_node sh i (Both j k) f near = omega arith
+wide_node sh i (Window j a b k) f near = omega (arith, f.1, f.2)
+
+pub wide : (sh : Shape) (i : ℕ) → Lawful sh → i < sh.count → run_width (sh.nodes i) ≤ sh.ring
+wide sh i lawful below = wide_node sh i (sh.nodes i) (lawful.fair i below) (lawful.near i below)
+
 module _ (sh : Shape) {M : Type 0} (whole : M → ℤ) (n j w t : ℕ) (xs : List M) (old : M) (lawful : Lawful sh) (below : j + 1 < sh.count) (full : sh.hz j + w ≤ n) (when : t ≡ n - w) (back : Back sh whole t j xs old) where
   leaving_node : (want : ℕ → ℕ → ℤ) → RingOf sh whole want n j xs → (node : NodeModel) → Fair sh (j + 1) node → w ≡ run_width node → Oldest whole want sh.hz n node (Some old)
   leaving_node want ring (HeadTest h s l) f e = tt
@@ -77,7 +89,7 @@ module _ {sh : Shape} {M : Type 0} (whole : M → ℤ) (n : ℕ) (xs : List M) {
       subst (RunOf whole want sh.hz (n + 1) (offset sh i) ys) at.is (run_same whole (want j) (offset sh i) (width a b) _ _ _ _ ys eu ec run₀)
 
   -- ---- the newest comes in, as one more or in place of one that leaves
-  module _ (zs : List M) (new : M) (done : Bool) (far : ℕ) (is : far ≡ sh.hz j) (ripe : far ≤ n) (back : Back sh whole n j xs new) where
+  module _ (zs : List M) (new : M) (done : Bool) (far s : ℕ) (is : far ≡ sh.hz j) (ripe : far ≤ n) (now : s ≡ n) (back : Back sh whole s j xs new) where
     abbrev u : ℕ
     u = min (n - far) (length (between from to xs))
 

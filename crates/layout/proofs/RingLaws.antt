@@ -1,6 +1,6 @@
 -- A ring of margins: a margin more, and what a write elsewhere leaves. Assumes nothing.
-use Rattle.std.proofs.Common.{◌≡◌, ℕ, ◌+◌, ◌-◌, ◌*◌, ◌/◌, ◌%◌, ◌<◌, ◌≤◌, ◌≢◌, ◌⊎◌, List, length, get_or, set, ℤ, sym, ap, ◌∙◌, inl, inr, ⊎_elim, mul-le-mul_right, mod-lt, add-mul, one-mul, arith}
-use Rattle.std.proofs.lemmas.Nat.{div-add-mod'}
+use Rattle.std.proofs.Common.{◌≡◌, ℕ, zero, suc, ◌+◌, ◌-◌, ◌*◌, ◌/◌, ◌%◌, ◌<◌, ◌≤◌, ◌≢◌, ◌⊎◌, List, length, get_or, set, ℤ, sym, ap, ◌∙◌, inl, inr, ⊎_elim, mul-le-mul_right, mod-lt, add-mul, one-mul, add-one, arith}
+use Rattle.std.proofs.lemmas.Nat.{div-add-mod', mod-mul-add}
 use Rattle.std.proofs.lemmas.List.{get_or-set_same, get_or-set_other}
 use Rattle.std.proofs.lemmas.Bool.{cases_eq, cases_lt}
 use Rattle.layout.specs.Cells.{Outside, Ring}
@@ -20,6 +20,36 @@ apart w i n before within same =
     let more : n / w * w ≤ i / w * w = mul-le-mul_right w h in
     omega arith)
     (cases_lt (i / w) (n / w))
+
+-- one row on: one place on, or back to the ring's begin
+module _ (w n : ℕ) (some : 0 < w) where
+  pub next_within : n % w + 1 < w → n % w + 1 ≡ (n + 1) % w
+  next_within lt =
+      let split : n + 1 ≡ n / w * w + (n % w + 1) = omega (arith, div-add-mod' n w) in
+      sym (ap (λ k. k % w) split ∙ mod-mul-add (n / w) w (n % w + 1) lt)
+
+  pub next_round : w ≤ n % w + 1 → 0 ≡ (n + 1) % w
+  next_round past =
+      let more : (n / w + 1) * w ≡ n / w * w + w = add-mul (n / w) 1 w ∙ ap (λ x. n / w * w + x) (one-mul w) in
+      let split : n + 1 ≡ (n / w + 1) * w + 0 = omega (arith, div-add-mod' n w, mod-lt n {m = w} some) in
+      sym (ap (λ k. k % w) split ∙ mod-mul-add (n / w + 1) w 0 some)
+
+-- b rows back, a whole ring at most: b places back, or on from the ring's end
+module _ (w n b : ℕ) (some : 0 < w) where
+  pub back_within : b ≤ n % w → n % w - b ≡ (n - b) % w
+  back_within le =
+      let split : n - b ≡ n / w * w + (n % w - b) = omega (arith, div-add-mod' n w) in
+      sym (ap (λ k. k % w) split ∙ mod-mul-add (n / w) w (n % w - b) (omega (arith, mod-lt n {m = w} some)))
+
+  pub back_round : n % w < b → b ≤ n → b ≤ w → n % w + (w - b) ≡ (n - b) % w
+  back_round past taken held = go (n / w) (div-add-mod' n w)
+    where
+      go : (q : ℕ) → q * w + n % w ≡ n → n % w + (w - b) ≡ (n - b) % w
+      go zero e = absurd (omega arith)
+      go (suc q) e =
+          let more : suc q * w ≡ q * w + w = ap (λ k. k * w) (sym (add-one q)) ∙ add-mul q 1 w ∙ ap (λ x. q * w + x) (one-mul w) in
+          let split : n - b ≡ q * w + (n % w + (w - b)) = omega arith in
+          sym (ap (λ k. k % w) split ∙ mod-mul-add q w (n % w + (w - b)) (omega arith))
 
 module _ {M : Type 0} (whole : M → ℤ) (f : ℕ → ℤ) (h size base : ℕ) where
   pub ring_none : (n : ℕ) (cells : List M) → n ≤ h → Ring whole f h size base n cells

@@ -1,5 +1,5 @@
 -- Every rule has a lawful shape, in which each entry has the margins of its formula. Assumes nothing.
-use Rattle.std.proofs.Common.{◌≡◌, ℕ, zero, suc, ◌+◌, ◌-◌, ◌*◌, ◌<◌, ◌≤◌, Bool, true, false, cond, List, map, length, get_or, take, ℤ, neg_ℤ, Some, None, Option, sym, refl, ap, ◌∙◌, ap₂, add-one, arith}
+use Rattle.std.proofs.Common.{◌≡◌, ℕ, zero, suc, ◌+◌, ◌-◌, ◌*◌, ◌<◌, ◌≤◌, Bool, true, false, cond, ltb, List, map, length, get_or, take, ℤ, neg_ℤ, Some, None, Option, sym, refl, ap, ◌∙◌, ap₂, add-one, arith}
 use Rattle.std.specs.Int.{int_max, int_min}
 use Rattle.std.specs.Option.{option_map}
 use Rattle.std.specs.List.{sum_by}
@@ -7,7 +7,7 @@ use Rattle.std.proofs.lemmas.List.{take_all}
 use Rattle.std.proofs.lemmas.List.Elements.{All-from_recursion}
 use Rattle.std.proofs.lemmas.List.Folds.{list_any_at}
 use Rattle.std.proofs.lemmas.List.Sums.{sum_by_more}
-use Rattle.std.proofs.lemmas.Bool.{cond-true, eq-eqb, lt-ltb}
+use Rattle.std.proofs.lemmas.Bool.{cond-true, cond-false, eq-eqb, lt-ltb, ltb-true}
 use Rattle.formulas.specs.Formula.{Formula, head_test, zone_test, complement, either, both, window, width, horizon, reads}
 use Rattle.formulas.specs.Margin.{Signal, polls, margin, Formed}
 use Rattle.formulas.proofs.Stretches.{all_among}
@@ -27,10 +27,10 @@ use Rattle.rules.specs.Assemble.{blank}
 use Rattle.rules.specs.Lawful.{Ranged}
 use Rattle.rules.specs.Needs.{widths, zone_tested}
 use Rattle.rules.specs.Needs as rule_need
-use Rattle.rules.specs.Nodes.{NodeModel, HeadTest, ZoneTest, Not, Either, Both, Window, model, node_of, node_by, node_at}
+use Rattle.rules.specs.Nodes.{NodeModel, HeadTest, ZoneTest, Not, Either, Both, Window, model, node_of, node_by}
 use Rattle.rules.specs.declared.node.Node.{Node}
 use Rattle.rules.specs.Parts.{Operands}
-use Rattle.rules.specs.Rules.{zone, listed, formula, part}
+use Rattle.rules.specs.Rules.{zone, listed, formula, part, horizon_at, node_at}
 use Rattle.rules.specs.Spelling.{entries, spelled}
 use Rattle.rules.specs.Totals.{tests_zone, entry_width}
 use Rattle.rules.specs.declared.rule.Rule.{Rule}
@@ -173,6 +173,21 @@ module _ (r : Rule) where
 
   pub standing : (lent : ℕ) → need (shape r) ≤ lent → Ready (shape r) lent
   standing lent le = record { lawful = lawful; enough = le }
+
+  pub far_there : (i : ℕ) (o : Option ℕ) (z : ℕ) → o ≡ Some z → o ≡ horizon_at r i → i < length (listed r) → z ≡ (shape r).hz i
+  far_there i o z is e lt = let there : Some z ≡ Some ((shape r).hz i) = sym is ∙ e ∙ cond-true _ _ _ (lt-ltb i r.lines.count (within i lt)) in cc
+
+  -- the last entry looks as far as the rule
+  pub last_far : (n z : ℕ) → n ≡ length (listed r) → z ≡ horizon (formula r) → z ≡ (shape r).hz (n - 1)
+  last_far n z all far = far ∙ ap horizon (sym (ap (λ k. part r (k - 1)) (all ∙ listed-length r) ∙ (whole_is r).last))
+
+  -- an entry that is told is one of the rule's
+  pub node_below : (i : ℕ) (o : Option Node) (node : Node) → o ≡ Some node → option_map model o ≡ node_at r i → i < length (listed r)
+  node_below i o node is e = go (ltb i r.lines.count) refl
+    where
+      go : (b : Bool) → ltb i r.lines.count ≡ b → i < length (listed r)
+      go true h = omega (arith, ltb-true i r.lines.count h, listed-length r)
+      go false h = let none : Some (model node) ≡ None = ap (option_map model) (sym is) ∙ e ∙ cond-false _ _ _ h in absurd (cc)
 
   pub node_there : (i : ℕ) (o : Option Node) (node : Node) → o ≡ Some node → option_map model o ≡ node_at r i → i < length (listed r) → model node ≡ (shape r).nodes i
   node_there i o node is e lt =

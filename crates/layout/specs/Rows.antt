@@ -15,6 +15,10 @@ use Rattle.layout.specs.Shape.{shape}
 use Rattle.layout.specs.Slots.{Slots}
 use Rattle.layout.specs.Steps.{Readings, Lit}
 
+-- rows are counted in 32 bits
+abbrev pub most_counted : ℕ
+most_counted = 4294967295
+
 -- a row: the steps of each head that the rule reads
 abbrev pub Row : Type 0
 Row = ℕ → ℤ

@@ -7,5 +7,7 @@ mod nodes;
 mod rings;
 mod row;
 mod rows;
+mod taken;
 
 pub use rows::{latest_margin, take_row};
+pub use taken::Rows;

@@ -3,10 +3,10 @@ ghost use Rattle.std.specs.Prelude.{◌≡◌, ◌<◌, length, ℤ, is_some};
 ghost use Rattle.layout.specs.Steps.{row_at};
 ghost use Rattle.layout.specs.Rows.{Advanced, has_latest, Latest};
 
-use crate::entry_step::EntryStep;
-use crate::nodes::{ring_size, slot_of};
+use crate::nodes::ring_size;
 use crate::rings::Ring;
 use crate::row::Row;
+use crate::taken::Rows;
 use records::Record;
 use rules::Rule;
 use scales::Scale;
@@ -17,48 +17,29 @@ use scales::Scale;
 pub fn take_row<S: Scale, R: Record<Reading = S::Reading>>(
     scale: &S,
     rule: &Rule,
-    rows: u32,
+    rows: Rows,
     record: &R,
     poll: u32,
     cells: &mut [S::Margin],
 ) -> bool
-    ensures { Advanced (S.Scale.model scale.now) rule.now (row_at (R.Record.model «record».now) poll) rows cells.old cells.new result }
+    ensures { Advanced (S.Scale.model scale.now) rule.now (row_at (R.Record.model «record».now) poll) rows.count cells.old cells.new result }
 {
     if cells.len() < rule.need() {
         return false;
     }
+    let rows = rows.within(rule);
     let row = Row {
         scale,
         rule,
-        record,
+        record: *record,
         poll,
         rows,
-        slot: slot_of(rule, rows),
     };
-    let mut from = rule.len() * ring_size(rule);
+    let mut from = rule.len() * ring_size(rule) as usize;
     let mut leaving = None;
-    // By its place, since an entry is asked for by it, and so is the ring before. What leaves a window is read before the entry
-    // right before it, its formula, is written: where the window is as wide as the rings, the newest margin takes the place of
-    // the oldest.
+    // By its place, since an entry is asked for by it, and so is the ring before.
     for at in 0..rule.len() {
-        let node = rule.node(at).unwrap();
-        let to = from + node.width() as usize;
-        let step = EntryStep {
-            row: &row,
-            at,
-            node,
-            from,
-            to,
-        };
-        let ring = Ring {
-            rule,
-            at,
-            cells,
-            latest: rows,
-            slot: row.slot,
-        };
-        let next = ring.leaving(rows);
-        step.enter(leaving, cells);
+        let (to, next) = row.pass(at, from, leaving, cells);
         from = to;
         leaving = next;
     }
@@ -66,19 +47,20 @@ pub fn take_row<S: Scale, R: Record<Reading = S::Reading>>(
 }
 
 // The rule's margin at the latest poll that has all its rows; none while there is no such poll, or if the cells are too few.
-pub fn latest_margin<M: Copy>(rule: &Rule, rows: u32, cells: &[M]) -> Option<M>
-    ensures there { is_some result ≡ has_latest rule.now (length cells.now) rows }
-    ensures value { Latest rule.now rows cells.now result }
+pub fn latest_margin<M: Copy>(rule: &Rule, rows: Rows, cells: &[M]) -> Option<M>
+    ensures there { is_some result ≡ has_latest rule.now (length cells.now) rows.count }
+    ensures value { Latest rule.now rows.count cells.now result }
 {
-    if cells.len() < rule.need() || rows <= rule.horizon() {
+    let horizon = rule.horizon();
+    if cells.len() < rule.need() || rows.count <= horizon {
         return None;
     }
     let last = Ring {
         rule,
         at: rule.len() - 1,
+        horizon,
         cells,
-        latest: rows - 1,
-        slot: slot_of(rule, rows - 1),
+        rows: rows.within(rule),
     };
-    Some(last.back(rows - 1))
+    Some(last.back(1))
 }

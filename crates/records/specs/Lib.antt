@@ -5,8 +5,3 @@ pub mod Faults
 pub mod Texts
 pub mod Grid
 pub mod Excerpt
-pub mod Log
-pub mod Lookup
-pub mod Marks
-pub mod Lawful
-pub mod Timeline

@@ -5,7 +5,7 @@ ghost use Rattle.records.specs.Excerpt.{excerpt_record};
 use crate::readings::Record;
 
 // The polls of a lower record from one poll on: `count` of them, or the fewer that are left.
-#[derive(Drop)]
+#[derive(Clone, Copy)]
 pub struct Excerpt<'a, R> {
     lower: &'a R,
     from: u32,

@@ -1,5 +1,5 @@
 // Grids: every reading, poll by poll.
-ghost use Rattle.std.specs.Prelude.{◌≡◌, ◌+◌, ◌*◌, true, length, IfOk};
+ghost use Rattle.std.specs.Prelude.{◌≡◌, ◌+◌, ◌*◌, ⊤, true, length, IfOk};
 ghost use Rattle.std.specs.Result.{result_err};
 ghost use Rattle.faults.specs.Checks.{checked};
 ghost use Rattle.records.specs.Grid.{grid_fault, grid_record, grid_kept};
@@ -7,14 +7,27 @@ ghost use Rattle.records.specs.Grid.{grid_fault, grid_record, grid_kept};
 use crate::limits::Size;
 use crate::readings::Record;
 use crate::refusals::RecordFault;
+use std::alloc::AllocError;
 
 // A record over lent readings, poll by poll, and within a poll head by head.
-#[derive(Drop)]
 pub struct Grid<'a, T> {
     size: Size,
     readings: &'a [T],
     ghost lawful: { grid_kept size.heads size.polls (length readings.now) ≡ true },
 }
+
+// By hand, since none can be derived for a struct with a ghost field over a type parameter.
+impl<'a, T> Clone for Grid<'a, T> {
+    ghost is_clone = { λ grid copy. copy ≡ grid };
+
+    ghost is_infallible = { λ _. ⊤ };
+
+    fn clone(&self) -> Result<Grid<'a, T>, AllocError> {
+        Ok(*self)
+    }
+}
+
+impl<'a, T> Copy for Grid<'a, T> {}
 
 // Where the reading of the head at the poll stands.
 fn place(heads: u32, head: u32, poll: u32) -> usize

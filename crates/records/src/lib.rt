@@ -1,26 +1,17 @@
 // Records: up to 64 heads, up to 16,777,216 polls, and for each head and poll a reading or none.
 #![tactic(auto)]
 
-mod entries;
 mod excerpts;
 mod grids;
 mod limits;
-mod logs;
-mod marks;
-mod order;
 mod readings;
 mod refusals;
-mod timeline;
-mod words;
 
-pub use entries::LogEntry;
 pub use excerpts::Excerpt;
 pub use grids::Grid;
-pub use limits::{HEADS, POLLS};
-pub use logs::Log;
+pub use limits::{HEADS, POLLS, Size};
 pub use readings::Record;
-pub use refusals::{LogFault, RecordFault};
-pub use words::Word;
+pub use refusals::RecordFault;
 
 #[cfg(test)]
 mod tests;

@@ -15,7 +15,7 @@ pub const POLLS: u32 = 16_777_216;
 
 // How many heads and polls a record has, where it may have them. Callers pass two numbers, which may be any.
 #[derive(Clone, Copy)]
-pub(crate) struct Size {
+pub struct Size {
     pub heads: u32,
     pub polls: u32,
     ghost few_heads: { heads ≤ most_heads },
@@ -24,7 +24,7 @@ pub(crate) struct Size {
 
 impl Size {
     // So many heads and polls, where a record may have them.
-    pub(crate) fn new(heads: u32, polls: u32) -> Result<Size, RecordFault>
+    pub fn new(heads: u32, polls: u32) -> Result<Size, RecordFault>
         ensures fault { result_err result ≡ numbers_fault heads polls }
         ensures heads { IfOk result (λ size. size.heads ≡ heads) }
         ensures polls { IfOk result (λ size. size.polls ≡ polls) }
@@ -39,7 +39,7 @@ impl Size {
     }
 
     // The size of the empty record.
-    pub(crate) fn none() -> Size
+    pub fn none() -> Size
         ensures heads { result.heads ≡ 0 }
         ensures polls { result.polls ≡ 0 }
     {
@@ -47,7 +47,7 @@ impl Size {
     }
 
     // Whether the head and the poll lie within.
-    pub(crate) fn holds(self, head: u32, poll: u32) -> bool
+    pub fn holds(self, head: u32, poll: u32) -> bool
         ensures { result ≡ (nat_lt head self.heads && nat_lt poll self.polls) }
     {
         head < self.heads && poll < self.polls

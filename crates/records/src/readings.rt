@@ -3,8 +3,9 @@ ghost use Rattle.std.specs.Prelude.{◌≡◌};
 ghost use Rattle.records.specs.Model.{RecordModel};
 
 // A record: so many heads, so many polls, and for each head and poll a reading or none. Its model
-// says which; outside its numbers there is none. What has such a model is a record.
-pub trait Record {
+// says which; outside its numbers there is none. What is a view (`Copy`) and has such a model is a record: who works on one
+// keeps it whole, where of a borrowed one the numbers would be read again after every write.
+pub trait Record: Copy {
     type Reading: Copy;
 
     ghost model: { Self → RecordModel Self.Reading };

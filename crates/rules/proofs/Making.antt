@@ -1,6 +1,7 @@
 -- What a rule is made of, once its entries were walked through. Assumes nothing.
 use Rattle.std.proofs.Common.{◌≡◌, ℕ, ◌+◌, ◌-◌, ◌*◌, ◌^◌, ◌<◌, ◌≤◌, Bool, true, false, cond, List, length, get_or, Ok, sym, ap, ◌∙◌, ap₂, ⊎_elim, arith}
 use Rattle.std.proofs.lemmas.Bool.{cases_lt, cases_Bool}
+use Rattle.std.proofs.lemmas.List.{get_or_default}
 use Rattle.formulas.specs.Formula.{Formula, head_test, zone_test, complement, either, both, window, among, horizon, reads}
 use Rattle.entries.proofs.Listing.{low_head}
 use Rattle.entries.specs.Heads.{head_total, heads}
@@ -24,6 +25,7 @@ pub record WalkedAll (y : ℕ) (es : List Entry) (t : List Line) : Type 0 where
   pub many : fair_heads (length (heads y)) ≡ true
   pub left : (st : List Formula) × (stack (heads y) es (length es) ≡ Ok st)
   pub spanned : Spanned (heads y) es t (length es)
+  pub room : length es ≤ length t
 
 widths_within : (z : List ℕ) (φ : Formula) → Ranged z φ → widths φ ≤ 1440 * entries φ
 widths_within z (head_test h s l) r = omega arith
@@ -49,11 +51,13 @@ module _ {y : ℕ} {es : List Entry} {t : List Line} (w : WalkedAll y es t) wher
   pub entries_is : length es ≡ entries (formula_of (heads y) es)
   entries_is = written_length es (spelled (formula_of (heads y) es)) spells_it ∙ spelled-length (formula_of (heads y) es)
 
-  pub horizon_is : (get_or t (length es - 1) no_line).span.horizon ≡ horizon (formula_of (heads y) es)
-  horizon_is = ap (λ s. s.horizon) (w.spanned (length es - 1) (omega (arith, passes.fair.some))) ∙ ap horizon (sym passes.whole)
+  pub horizon_is : (d : Line) → (get_or t (length es - 1) d).span.horizon ≡ horizon (formula_of (heads y) es)
+  horizon_is d =
+      let within : length es - 1 < length t = omega (arith, passes.fair.some, w.room) in
+      ap (λ x. x.span.horizon) (get_or_default t (length es - 1) d no_line within) ∙ ap (λ s. s.horizon) (w.spanned (length es - 1) (omega (arith, passes.fair.some))) ∙ ap horizon (sym passes.whole)
 
-  pub horizon_near : (get_or t (length es - 1) no_line).span.horizon ≤ 4095
-  horizon_near = omega (arith, horizon_is, lawful_is.near)
+  pub horizon_near : (d : Line) → (get_or t (length es - 1) d).span.horizon ≤ 4095
+  horizon_near d = omega (arith, horizon_is d, lawful_is.near)
 
   pub some_entries : 1 ≤ length es
   some_entries = passes.fair.some
@@ -85,10 +89,10 @@ module _ {y : ℕ} {es : List Entry} {t : List Line} (w : WalkedAll y es t) wher
   pub tested_is : (b : Bool) → b ≡ list_any tests_zone es → b ≡ zone_tested (formula_of (heads y) es)
   tested_is b e = e ∙ zone_is es (formula_of (heads y) es) spells_it
 
-  pub need_is : (n m k : ℕ) (b : Bool) → b ≡ list_any tests_zone es → m ≡ sum_by entry_width es → k ≡ cond b (length (heads y)) 0 → n ≡ length es * ((get_or t (length es - 1) no_line).span.horizon + 1) + m + k → n ≡ need (heads y) (formula_of (heads y) es)
-  need_is n m k b tested wide room e =
+  pub need_is : (n m k : ℕ) (b : Bool) (d : Line) → b ≡ list_any tests_zone es → m ≡ sum_by entry_width es → k ≡ cond b (length (heads y)) 0 → n ≡ length es * ((get_or t (length es - 1) d).span.horizon + 1) + m + k → n ≡ need (heads y) (formula_of (heads y) es)
+  need_is n m k b d tested wide room e =
       e
-      ∙ ap₂ (λ x z. x * (z + 1) + m + k) entries_is horizon_is
+      ∙ ap₂ (λ x z. x * (z + 1) + m + k) entries_is (horizon_is d)
       ∙ ap₂ (λ x z. entries (formula_of (heads y) es) * (horizon (formula_of (heads y) es) + 1) + x + z) (wide ∙ widths_is es (formula_of (heads y) es) spells_it) (room ∙ ap (λ c. cond c (length (heads y)) 0) (tested_is b tested))
 
   pub tests_few : (k : ℕ) (b : Bool) → k ≡ cond b (length (heads y)) 0 → k ≤ 32

@@ -1,17 +1,18 @@
 -- Each entry of a lawful list, with the formula that ends there. Assumes nothing.
-use Rattle.std.proofs.Common.{◌≡◌, ℕ, zero, suc, ◌-◌, ◌<◌, ◌≤◌, List, [], ◌∷◌, length, get_or, IfSome, Some, None, Ok, Err, Result, sym, refl, ap, ◌∙◌, subst, arith}
+use Rattle.std.proofs.Common.{◌≡◌, ℕ, zero, suc, ◌-◌, ◌<◌, ◌≤◌, eqb, List, [], ◌∷◌, length, get_or, IfSome, Some, None, Ok, Err, Result, sym, refl, ap, ◌∙◌, subst, arith}
 use Rattle.entries.specs.Decode.{operation_of}
 use Rattle.formulas.specs.Formula.{Formula}
 use Rattle.rules.specs.Spelling.{entries}
-use Rattle.rules.specs.Assemble.{blank, built, newest, stack}
-use Rattle.rules.specs.Nodes.{node_of, node_by}
+use Rattle.rules.specs.Assemble.{blank, built, newest, step, stack}
+use Rattle.rules.specs.Nodes.{NodeModel, node_of, node_by, noded}
 use Rattle.rules.specs.Nodes as node
-use Rattle.rules.specs.Spans.{left, formula_at}
+use Rattle.rules.specs.Spans.{left, formula_at, spanned}
 use Rattle.entries.specs.declared.entry.Entry.{Entry}
 use Rattle.entries.specs.Operations.{OperationModel, HeadTest, ZoneTest, Not, Either, Both, Window}
 use Rattle.rules.specs.declared.fault.RuleFault.{RuleFault}
-use Rattle.rules.proofs.Unwind.{last_entry}
-use Rattle.rules.proofs.Walks.{stays}
+use Rattle.rules.specs.declared.span.Span.{Span}
+use Rattle.rules.proofs.Unwind.{judged_gives, last_entry}
+use Rattle.rules.proofs.Walks.{Fine, stays}
 
 module _ (z : List ℕ) (es : List Entry) where
   pub front : (m n : ℕ) (st : List Formula) → n ≤ m → stack z es m ≡ Ok st → (s : List Formula) × (stack z es n ≡ Ok s)
@@ -47,6 +48,21 @@ first_node m n Not = refl
 first_node m n Either = ap (λ k. node.Either k 0) (omega arith)
 first_node m n Both = ap (λ k. node.Both k 0) (omega arith)
 first_node m n (Window a b p) = refl
+
+-- the node of a good entry, and a bad one's fault
+pub step_noded : (z : List ℕ) (es : List Entry) (n : ℕ) (st : List Formula) (op : OperationModel) (s : Span) (m : NodeModel) → operation_of (get_or es n blank) (length z) ≡ Some op → m ≡ node_by n (entries (newest st)) op → Ok s ≡ spanned (step z es n st) → Ok m ≡ noded n (step z es n st)
+step_noded z es n st op s m is e =
+    go (step z es n st)
+    (judged_gives (λ r. node_of n (newest r) ≡ node_by n (entries (newest st)) op) z (eqb (suc n) (length es)) n st (operation_of (get_or es n blank) (length z))
+    (λ o read. let same : op ≡ o = cc in subst (λ x. IfSome (built x st) (λ r. node_of n (newest r) ≡ node_by n (entries (newest st)) op)) same (built_node n op st)))
+  where
+    go : (r : Result (List Formula) RuleFault) → Fine (λ r. node_of n (newest r) ≡ node_by n (entries (newest st)) op) r → Ok s ≡ spanned r → Ok m ≡ noded n r
+    go (Ok after) fine same = ap Ok (e ∙ sym fine.1)
+    go (Err f) fine same = absurd (cc)
+
+pub bad_noded : (n : ℕ) (f : RuleFault) (r : Result (List Formula) RuleFault) → Err f ≡ spanned r → Err f ≡ noded n r
+bad_noded n f (Ok st) e = absurd (cc)
+bad_noded n f (Err g) e = let same : f ≡ g = cc in ap Err same
 
 -- below is the number of entries of the formula before entry i, or any number where there is none
 pub node_is : (z : List ℕ) (es : List Entry) (st : List Formula) (i below : ℕ) (op : OperationModel) → stack z es (length es) ≡ Ok st → i < length es → operation_of (get_or es i blank) (length z) ≡ Some op → (0 < i → below ≡ entries (formula_at z es (i - 1))) → node_of i (formula_at z es i) ≡ node_by i below op

@@ -1,5 +1,5 @@
 -- The formulas left, as the table of spans shows them. Assumes nothing.
-use Rattle.std.proofs.Common.{◌≡◌, ℕ, ◌+◌, ◌-◌, ◌<◌, ◌≤◌, max, List, [], ◌∷◌, length, take, get_or, Bool, true, false, cond, eqb, ltb, ◌≢◌, MatchOption, Some, None, Option, refl, ap, ◌∙◌, ap₂, arith}
+use Rattle.std.proofs.Common.{◌≡◌, ℕ, ◌+◌, ◌-◌, ◌<◌, ◌≤◌, max, List, [], ◌∷◌, length, take, get_or, Bool, true, false, cond, eqb, ltb, ◌≢◌, Some, None, Option, refl, ap, ◌∙◌, ap₂, arith}
 use Rattle.std.proofs.lemmas.Bool.{eqb-true, eqb-false, ltb-true}
 use Rattle.std.proofs.lemmas.List.{length-take-le, length-map}
 use Rattle.formulas.specs.Formula.{Formula, head_test, zone_test, complement, either, both, window, horizon}
@@ -27,10 +27,6 @@ told l n s e = go (eqb n 0) refl e
     go : (b : Bool) → eqb n 0 ≡ b → Some s ≡ cond b None (Some (get_or l.rows (n - 1) no_line).span) → (0 < n) × (s ≡ (get_or l.rows (n - 1) no_line).span)
     go true h e = absurd (cc)
     go false h e = let some : n ≢ 0 = eqb-false n 0 h in (omega arith, cc)
-
-pub below_is : (l : Lines) (n m : ℕ) (o : Option Span) (P : Span → Type 0) → o ≡ before l n → MatchOption o (m ≡ 0) P → ((s : Span) → P s → m ≡ s.size) → 0 < n → m ≡ (get_or l.rows (n - 1) no_line).span.size
-below_is l n m None P e h f p = let z = first l n e in absurd (omega arith)
-below_is l n m (Some s) P e h f p = f s h ∙ ap (λ x. x.size) (told l n s e).1
 
 pub got : (l : Lines) (i : ℕ) (x : Line) → Some x ≡ cond (ltb i l.count) (Some (get_or l.rows i no_line)) None → (i < l.count) × (x ≡ get_or l.rows i no_line)
 got l i x e = go (ltb i l.count) refl e

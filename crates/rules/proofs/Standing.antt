@@ -1,15 +1,9 @@
 -- What is known of every rule, and of each of its entries. Assumes nothing.
-use Rattle.std.proofs.Common.{◌≡◌, ℕ, ◌-◌, ◌<◌, ◌≤◌, Option, length, take, get_or, Some, None, sym, ap, ◌∙◌, arith}
-use Rattle.std.proofs.lemmas.List.{get_or-take}
-use Rattle.std.proofs.Math.ListN.{get_or-map}
-use Rattle.std.proofs.lemmas.Bool.{cond_below}
+use Rattle.std.proofs.Common.{◌≡◌, ℕ, ◌-◌, ◌<◌, ◌≤◌, length, get_or, sym, ap, ◌∙◌, arith}
+use Rattle.std.proofs.lemmas.List.{get_or_default}
 use Rattle.formulas.specs.Formula.{horizon, reads}
-use Rattle.entries.specs.Decode.{operation_of}
-use Rattle.entries.specs.Operations.{OperationModel}
-use Rattle.rules.specs.Assemble.{blank}
 use Rattle.rules.specs.Lawful.{Lawful}
 use Rattle.rules.specs.Needs.{widths, widths_to}
-use Rattle.rules.specs.Nodes.{node_by, node_at}
 use Rattle.rules.specs.Parts.{Part, Whole}
 use Rattle.rules.specs.Rules.{zone, listed, formula, part}
 use Rattle.rules.specs.Spans.{formula_at, no_line}
@@ -19,7 +13,6 @@ use Rattle.rules.specs.declared.rule.Rule.{Rule}
 use Rattle.rules.proofs.Assembling.{spells_formula, lawful_formula}
 use Rattle.rules.proofs.Depths.{near_at, ranged_at, reads_at}
 use Rattle.rules.proofs.Grounds.{Passed, passed}
-use Rattle.rules.proofs.Reading.{node_is, never_bad}
 use Rattle.rules.proofs.Spelt.{operands}
 use Rattle.rules.proofs.Stacks.{listed-length as lines_listed-length}
 use Rattle.rules.proofs.Widths.{widths_all}
@@ -41,28 +34,13 @@ module _ (r : Rule) where
   pub some : 1 ≤ r.lines.count
   some = omega (arith, listed-length, (passes r).fair.some)
 
-  pub horizon_is : (n : ℕ) → n ≡ length (listed r) → (get_or r.lines.rows (n - 1) no_line).span.horizon ≡ horizon (formula r)
-  horizon_is n all =
-      ap (λ s. s.horizon) (r.known (n - 1) (omega (arith, some, listed-length)))
+  pub horizon_is : (n : ℕ) (d : Line) → n ≡ length (listed r) → (get_or r.lines.rows (n - 1) d).span.horizon ≡ horizon (formula r)
+  horizon_is n d all =
+      let within : n - 1 < length r.lines.rows = omega (arith, some, listed-length, r.lines.room, r.lines.few) in
+      ap (λ x. x.span.horizon) (get_or_default r.lines.rows (n - 1) d no_line within)
+      ∙ ap (λ s. s.horizon) (r.known (n - 1) (omega (arith, some, listed-length)))
       ∙ ap (λ k. horizon (formula_at (zone r) (listed r) (k - 1))) all
       ∙ ap horizon (sym (passes r).whole)
-
-  -- entry i, as the code reads it
-  abbrev pub op_at : ℕ → ℕ → Option OperationModel
-  op_at i m = operation_of (get_or r.lines.rows i no_line).entry m
-
-  entry_at : (i : ℕ) → i < r.lines.count → (m : ℕ) → m ≡ length (zone r) → operation_of (get_or (listed r) i blank) (length (zone r)) ≡ op_at i m
-  entry_at i lt m e =
-      ap (λ x. operation_of x (length (zone r))) (get_or-map (λ (x : Line). x.entry) (take r.lines.count r.lines.rows) i no_line ∙ ap (λ (x : Line). x.entry) (get_or-take r.lines.count r.lines.rows i no_line lt))
-      ∙ ap (op_at i) (sym e)
-
-  pub node_stands : (i below m : ℕ) (op : OperationModel) → i < r.lines.count → m ≡ length (zone r) → Some op ≡ op_at i m → (0 < i → below ≡ (get_or r.lines.rows (i - 1) no_line).span.size) → Some (node_by i below op) ≡ node_at r i
-  node_stands i below m op lt e is known =
-      ap Some (sym (node_is (zone r) (listed r) (passes r).formulas i below op (passes r).after (omega (arith, listed-length)) (entry_at i lt m e ∙ sym is) (λ more. known more ∙ ap (λ s. s.size) (r.known (i - 1) (omega arith)))))
-      ∙ cond_below i r.lines.count _ _ lt
-
-  pub entry_stands : (i m : ℕ) → i < r.lines.count → m ≡ length (zone r) → None ≡ op_at i m → ⊥
-  entry_stands i m lt e is = never_bad (zone r) (listed r) (passes r).formulas i (passes r).after (omega (arith, listed-length)) (entry_at i lt m e ∙ sym is)
 
   pub part_is : (i : ℕ) → i < r.lines.count → Part r i
   part_is i lt =

@@ -91,9 +91,12 @@ more_left_is n size m = ⊎_elim here past (cases_Bool (eqb (n + 1) m))
     past e = and_left _ _ (ap (λ k. eqb k m) (sym (add-one n)) ∙ e) ∙ sym (and_left _ _ e)
 
 module _ {z : List ℕ} {es : List Entry} {n : ℕ} {t : List Line} {st : List Formula} {m : ℕ} {op : OperationModel} {s : Span} (r : Read z es n t st m op s) where
+  pub decoded : operation_of (get_or es n blank) (length z) ≡ Some op
+  decoded = ap (operation_of (get_or es n blank)) (sym r.many) ∙ sym r.is
+
   steps : spanned (step z es n st) ≡ cond (eqb (suc n) (length es) && not (eqb s.size (n + 1))) (Err (TooManyFormulas n)) (cond (leb s.horizon 4095) (Ok s) (Err (HorizonTooFar n s.horizon)))
   steps =
-      ap (λ o. spanned (judged z (eqb (suc n) (length es)) n st o)) (ap (operation_of (get_or es n blank)) (sym r.many) ∙ sym r.is)
+      ap (λ o. spanned (judged z (eqb (suc n) (length es)) n st o)) decoded
       ∙ ap spanned (inside_ok n (outside z op) (settled (eqb (suc n) (length es)) n (built op st)) r.within)
       ∙ settles (eqb (suc n) (length es)) n (built op st) s (subst (λ k. Heavier k (built op st)) (weighs t n st r.stacked) (built_weighs op st)) r.made
 

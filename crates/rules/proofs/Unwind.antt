@@ -10,7 +10,7 @@ use Rattle.rules.specs.declared.fault.RuleFault.{RuleFault}
 use Rattle.rules.proofs.Walks.{Fine, settled_fine, inside_fine}
 
 -- what is left after one entry more has P, if all that its operation builds has
-judged_gives : (P : List Formula → Type 0) (z : List ℕ) (last : Bool) (n : ℕ) (st : List Formula) (o : Option OperationModel) → ((op : OperationModel) → o ≡ Some op → IfSome (built op st) P) → Fine P (judged z last n st o)
+pub judged_gives : (P : List Formula → Type 0) (z : List ℕ) (last : Bool) (n : ℕ) (st : List Formula) (o : Option OperationModel) → ((op : OperationModel) → o ≡ Some op → IfSome (built op st) P) → Fine P (judged z last n st o)
 judged_gives P z last n st None h = tt
 judged_gives P z last n st (Some op) h = inside_fine P n _ _ (settled_fine P last n (built op st) (h op refl))
 

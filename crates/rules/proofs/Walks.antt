@@ -7,15 +7,15 @@ use Rattle.entries.specs.Decode.{operation_of}
 use Rattle.formulas.specs.Formula.{Formula, head_test, zone_test, complement, either, both, window, horizon}
 use Rattle.rules.specs.Spelling.{entries}
 use Rattle.rules.specs.Assemble.{blank, built, outside, alone, newest, settled, inside, judged, step, on, stack}
-use Rattle.rules.specs.Lines.{listed}
-use Rattle.rules.specs.Spans.{Stacked, Spanned, span, no_line, spanned, left, formula_at}
+use Rattle.rules.specs.Lines.{listed, Told}
+use Rattle.rules.specs.Nodes.{NodeModel, model, node_of, noded}
+use Rattle.rules.specs.Spans.{Stacked, span, no_line, spanned, left, formula_at}
 use Rattle.entries.specs.declared.entry.Entry.{Entry}
 use Rattle.entries.specs.Operations.{OperationModel, HeadTest, ZoneTest, Not, Either, Both, Window}
 use Rattle.rules.specs.declared.fault.RuleFault.{RuleFault}
 use Rattle.rules.specs.declared.fault.RuleFault.TheVariants.{TooManyFormulas, HorizonTooFar}
 use Rattle.rules.specs.declared.line.Line.{Line}
 use Rattle.rules.specs.declared.lines.Lines.{Lines}
-use Rattle.rules.specs.declared.span.Span.{Span}
 use Rattle.rules.proofs.Stacks.{some_entries}
 
 pub record Walked (z : List ℕ) (es : List Entry) (l : Lines) : Type 0 where
@@ -23,7 +23,7 @@ pub record Walked (z : List ℕ) (es : List Entry) (l : Lines) : Type 0 where
   pub formulas : List Formula
   pub after : stack z es l.count ≡ Ok formulas
   pub stacked : Stacked l.rows l.count formulas
-  pub told : Spanned z es l.rows l.count
+  pub told : Told z es l.rows l.count
 
 pub begins : (z : List ℕ) (es : List Entry) (l : Lines) → l.count ≡ 0 → Walked z es l
 unfolding stack
@@ -34,7 +34,7 @@ begins z es l none =
       formulas = [];
       after = ap (stack z es) none;
       stacked = none;
-      told = λ k h. absurd (omega arith);
+      told = (λ k h. absurd (omega arith), λ k h. absurd (omega arith));
     }
 
 -- a write behind the entries read so far
@@ -118,10 +118,18 @@ module _ (z : List ℕ) (es : List Entry) (l : Lines) (w : Walked z es l) where
       go (Err f) is fine same = absurd (cc)
       go (Ok st) is fine same = let e : x.span ≡ span (newest st) = cc in record { formulas = st; after = after_step ∙ is; near = fine.0; same = e; stacked = fine.1 fine.0 e }
 
-  -- a good entry
-  pub more : (x : Line) (l' : Lines) → n < length es → x.entry ≡ get_or es n blank → Ok x.span ≡ spanned (step z es n w.formulas) → l'.rows ≡ set l.rows n x → l'.count ≡ n + 1 → Walked z es l'
+  node_is : (m : NodeModel) → Ok m ≡ noded n (step z es n w.formulas) → m ≡ node_of n (formula_at z es n)
   unfolding formula_at
-  more x l' some read e rows count =
+  node_is m e = go (stack z es (suc n)) (e ∙ ap (noded n) (sym after_step))
+    where
+      go : (r : Result (List Formula) RuleFault) → Ok m ≡ noded n r → m ≡ node_of n (newest (left r))
+      go (Ok st) same = cc
+      go (Err f) same = absurd (cc)
+
+  -- a good entry
+  pub more : (x : Line) (l' : Lines) → n < length es → x.entry ≡ get_or es n blank → Ok x.span ≡ spanned (step z es n w.formulas) → Ok (model x.node) ≡ noded n (step z es n w.formulas) → l'.rows ≡ set l.rows n x → l'.count ≡ n + 1 → Walked z es l'
+  unfolding formula_at
+  more x l' some read e f rows count =
       let room : n < length l.rows = omega (arith, l'.few, l.room) in
       let g = grows x room e in
       record {
@@ -136,18 +144,22 @@ module _ (z : List ℕ) (es : List Entry) (l : Lines) (w : Walked z es l) where
         after = subst (λ k. stack z es k ≡ Ok g.formulas) (sym (count ∙ add-one n)) g.after;
         stacked = subst (λ k. Stacked l'.rows k g.formulas) (sym count) (subst (λ t. Stacked t (n + 1) g.formulas) (sym rows) g.stacked);
         told =
-            subst (λ k. Spanned z es l'.rows k) (sym count)
-            (subst (λ t. Spanned z es t (n + 1)) (sym rows)
-            (below_more _ _
-            (λ k h. let ne : k ≢ n = omega arith in ap (λ y. y.span) (get_or-set_other l.rows n k x no_line ne) ∙ w.told k h)
-            (ap (λ y. y.span) (get_or-set_same l.rows n x no_line room) ∙ g.same ∙ ap (λ r. span (newest (left r))) (sym g.after))));
+            subst (λ k. Told z es l'.rows k) (sym count)
+            (subst (λ t. Told z es t (n + 1)) (sym rows) (
+              below_more _ _
+                  (λ k h. let ne : k ≢ n = omega arith in ap (λ y. y.span) (get_or-set_other l.rows n k x no_line ne) ∙ w.told.0 k h)
+                  (ap (λ y. y.span) (get_or-set_same l.rows n x no_line room) ∙ g.same ∙ ap (λ r. span (newest (left r))) (sym g.after)),
+              below_more _ _
+                  (λ k h. let ne : k ≢ n = omega arith in ap (λ y. model y.node) (get_or-set_other l.rows n k x no_line ne) ∙ w.told.1 k h)
+                  (ap (λ y. model y.node) (get_or-set_same l.rows n x no_line room) ∙ node_is (model x.node) f),
+            ));
       }
 
   -- its span fits the next line
-  pub fits : (s : Span) → n < 24 → Ok s ≡ spanned (step z es n w.formulas) → (s.size ≤ n + 1) × (s.horizon ≤ 4095)
-  fits s room e = let g = grows (record { entry = blank; span = s }) (omega (arith, l.room)) e in go g.formulas g.near g.same g.stacked
+  pub fits : (x : Line) → n < 24 → Ok x.span ≡ spanned (step z es n w.formulas) → (x.span.size ≤ n + 1) × (x.span.horizon ≤ 4095)
+  fits x room e = let g = grows x (omega (arith, l.room)) e in go g.formulas g.near g.same g.stacked
     where
-      go : (st : List Formula) → horizon (newest st) ≤ 4095 → s ≡ span (newest st) → Stacked (set l.rows n (record { entry = blank; span = s })) (n + 1) st → (s.size ≤ n + 1) × (s.horizon ≤ 4095)
+      go : (st : List Formula) → horizon (newest st) ≤ 4095 → x.span ≡ span (newest st) → Stacked (set l.rows n x) (n + 1) st → (x.span.size ≤ n + 1) × (x.span.horizon ≤ 4095)
       go [] near same h = absurd (omega arith)
       go (φ ∷ st) near same h = (omega (arith, ap (λ y. y.size) same, h.0), omega (arith, ap (λ y. y.horizon) same))
 

@@ -5,11 +5,11 @@ pub mod Assemble
 pub mod Assembled
 pub mod Spans
 pub mod Lines
+pub mod Nodes
 pub mod Needs
 pub mod Totals
 pub mod Standing
 pub mod Rules
-pub mod Nodes
 pub mod Parts
 pub mod Places
 pub mod Faults

@@ -1,15 +1,21 @@
 -- An entry of a rule with the entries of its operands. Assumes nothing.
-use Rattle.std.specs.Prelude.{ℕ, ◌-◌, cond, ℤ, Some, None, Option, nat_lt}
+--     node_of       the node of the formula that ends at an entry
+--     node_by       the same from the entry's operation
+--     Noded         a table has the nodes of the first entries
+use Rattle.std.specs.Prelude.{◌≡◌, ℕ, ◌-◌, ◌<◌, List, ℤ, Ok, Err, Result, slice_index_or}
 use Rattle.scales.specs.declared.limit.Sense.{Sense}
 use Rattle.runs.specs.Rank.{rank}
 use Rattle.formulas.specs.Formula.{Formula, head_test, zone_test, complement, either, both, window, width}
 use Rattle.entries.specs.Operations.{OperationModel}
 use Rattle.entries.specs.Operations as operation
-use Rattle.rules.specs.Rules.{part}
+use Rattle.entries.specs.declared.entry.Entry.{Entry}
+use Rattle.rules.specs.Assemble.{newest}
+use Rattle.rules.specs.Spans.{formula_at, no_line}
 use Rattle.rules.specs.Spelling.{entries}
+use Rattle.rules.specs.declared.fault.RuleFault.{RuleFault}
+use Rattle.rules.specs.declared.line.Line.{Line}
 use Rattle.rules.specs.declared.node.Node.{Node}
 use Rattle.rules.specs.declared.node.Node.TheVariants as node
-use Rattle.rules.specs.declared.rule.Rule.{Rule}
 
 -- what a node means: its kind, with its values as whole numbers and its operands by their entries
 pub data NodeModel : Type 0 where
@@ -55,6 +61,11 @@ node_by i m operation.Either = Either (i - 1 - m) (i - 1)
 node_by i m operation.Both = Both (i - 1 - m) (i - 1)
 node_by i m (operation.Window a b p) = Window (i - 1) a b (rank p (width a b))
 
--- none past the last entry
-abbrev pub node_at : Rule → ℕ → Option NodeModel
-node_at r i = cond (nat_lt i r.lines.count) (Some (node_of i (part r i))) None
+-- the node of the newest formula, at entry i
+abbrev pub noded : ℕ → Result (List Formula) RuleFault → Result NodeModel RuleFault
+noded i (Ok st) = Ok (node_of i (newest st))
+noded i (Err f) = Err f
+
+-- t has the node of the formula that ends at each of the first n entries
+abbrev pub Noded : List ℕ → List Entry → List Line → ℕ → Type 0
+Noded zone es t n = (k : ℕ) → k < n → model (slice_index_or t k no_line).node ≡ node_of k (formula_at zone es k)

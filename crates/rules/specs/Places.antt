@@ -36,4 +36,4 @@ Numbered p r z = (p.rule_number ≡ r) × (p.zone_number ≡ z)
 
 -- the row holds the starting rule, under the numbers 0
 abbrev pub Fresh : RulePlace → Type 0
-Fresh p = (place_means p ≡ (starting, 0 ∷ [])) × Numbered p 0 0
+Fresh p = (place_means p ≡ (starting, 0 ∷ [])) × (held p ≡ start_entry ∷ []) × Numbered p 0 0

@@ -5,6 +5,7 @@ use Rattle.entries.specs.Heads.{heads}
 use Rattle.entries.specs.declared.entry.Entry.{Entry}
 use Rattle.rules.specs.Assemble.{formula_of}
 use Rattle.rules.specs.Lines as lines
+use Rattle.rules.specs.Nodes.{NodeModel, node_of}
 use Rattle.rules.specs.Spans.{formula_at}
 use Rattle.rules.specs.declared.fault.RuleFault.{RuleFault}
 use Rattle.rules.specs.declared.rule.Rule.{Rule}
@@ -26,6 +27,10 @@ part r i = formula_at (zone r) (listed r) i
 -- how far the formula of entry i looks; none past the last entry
 abbrev pub horizon_at : Rule → ℕ → Option ℕ
 horizon_at r i = cond (nat_lt i r.lines.count) (Some (horizon (part r i))) None
+
+-- the node of entry i; none past the last entry
+abbrev pub node_at : Rule → ℕ → Option NodeModel
+node_at r i = cond (nat_lt i r.lines.count) (Some (node_of i (part r i))) None
 
 -- the formula of a rule that was made, or why there is none
 abbrev pub made : Result Rule RuleFault → Result Formula RuleFault

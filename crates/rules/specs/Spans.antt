@@ -10,6 +10,7 @@ use Rattle.rules.specs.Assemble.{blank, newest, stack}
 use Rattle.rules.specs.Spelling.{entries}
 use Rattle.rules.specs.declared.fault.RuleFault.{RuleFault}
 use Rattle.rules.specs.declared.line.Line.{Line}
+use Rattle.rules.specs.declared.node.Node.TheVariants as node
 use Rattle.rules.specs.declared.sizes.TheConstants.{HORIZON}
 use Rattle.rules.specs.declared.span.Span.{Span}
 
@@ -24,7 +25,7 @@ abbrev pub no_span : Span
 no_span = record { horizon = 0; size = 0 }
 
 abbrev pub no_line : Line
-no_line = record { entry = blank; span = no_span }
+no_line = record { entry = blank; span = no_span; node = node.Not 0 }
 
 abbrev pub span : Formula → Span
 span φ = record { horizon = horizon φ; size = entries φ }

@@ -4,9 +4,8 @@ ghost use Rattle.formulas.specs.Formula.{Formula};
 ghost use Rattle.entries.specs.Heads.{heads as heads_of};
 ghost use Rattle.rules.specs.Assemble.{assemble, stack, fair};
 ghost use Rattle.rules.specs.Assembled.{Assembled};
-ghost use Rattle.rules.specs.Lines.{listed as lines_listed};
+ghost use Rattle.rules.specs.Lines.{listed as lines_listed, Told};
 ghost use Rattle.rules.specs.Rules.{listed, made};
-ghost use Rattle.rules.specs.Spans.{Spanned};
 
 use crate::draft::Draft;
 use crate::fault::RuleFault;
@@ -45,7 +44,7 @@ impl<'a> Draft<'a> {
     fn rule(&self, lines: Lines) -> Rule
         requires same { lines_listed lines ≡ self.now.entries.now }
         requires left { (st : List Formula) × (stack (heads_of self.now.zone.bits) self.now.entries.now (length self.now.entries.now) ≡ Ok st) }
-        requires spanned { Spanned (heads_of self.now.zone.bits) self.now.entries.now lines.rows (length self.now.entries.now) }
+        requires told { Told (heads_of self.now.zone.bits) self.now.entries.now lines.rows (length self.now.entries.now) }
         ensures entries { listed result ≡ self.now.entries.now }
         ensures zone { result.zone ≡ self.now.zone }
     {

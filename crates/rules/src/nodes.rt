@@ -1,11 +1,16 @@
-// Reading a rule entry by entry.
+// The nodes of a rule's entries: made as its lines are, and kept there.
 ghost use Rattle.std.specs.Prelude.{◌≡◌, ℕ, ◌<◌, ◌≤◌};
 ghost use Rattle.std.specs.Option.{option_map};
 ghost use Rattle.entries.specs.Operations.{model as operation_model};
 ghost use Rattle.entries.specs.Writing.{InRange};
-ghost use Rattle.rules.specs.Nodes.{model, node_by, node_at};
+ghost use Rattle.rules.specs.Assemble.{newest};
+ghost use Rattle.rules.specs.Lines.{Shows};
+ghost use Rattle.rules.specs.Nodes.{model, node_by};
 ghost use Rattle.rules.specs.Parts.{Part};
+ghost use Rattle.rules.specs.Rules.{node_at};
+ghost use Rattle.rules.specs.Spelling.{entries};
 
+use crate::lines::Lines;
 use crate::node::Node;
 use crate::rule::Rule;
 use crate::totals::width;
@@ -34,14 +39,23 @@ fn node_by(op: Operation, at: usize, below: usize) -> Node
     }
 }
 
+impl Lines {
+    // The node of the operation at the next entry.
+    pub(crate) fn next_node(&self, op: Operation) -> Node
+        requires { (heads : ℕ) × InRange heads (operation_model op) }
+        ensures { Shows self.now (λ st. node_by self.now.count (entries (newest st)) (operation_model op)) (model result) }
+    {
+        let below = self.before(self.count).map_or(0, |span| span.size as usize);
+        node_by(op, self.count, below)
+    }
+}
+
 impl Rule {
     // The entry at a place, with those of its operands; none past the last.
     pub fn node(&self, at: usize) -> Option<Node>
         ensures value { option_map model result ≡ node_at self.now at }
         ensures part { at < self.now.lines.count → Part self.now at }
     {
-        let op = self.lines.get(at)?.entry.operation(self.zone.size())?;
-        let below = self.lines.before(at).map_or(0, |span| span.size as usize);
-        Some(node_by(op, at, below))
+        Some(self.lines.get(at)?.node)
     }
 }

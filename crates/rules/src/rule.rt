@@ -3,6 +3,7 @@ ghost use Rattle.std.specs.Prelude.{◌≡◌, true, is_ok};
 ghost use Rattle.entries.specs.Heads.{heads};
 ghost use Rattle.rules.specs.Assemble.{assemble};
 ghost use Rattle.rules.specs.Lines.{listed};
+ghost use Rattle.rules.specs.Nodes.{Noded};
 ghost use Rattle.rules.specs.Spans.{Spanned};
 ghost use Rattle.rules.specs.Standing.{Read, Needed, Tested};
 
@@ -19,6 +20,7 @@ pub struct Rule {
     pub(crate) need: usize,
     ghost lawful: { is_ok (assemble (heads zone.bits) (listed lines)) ≡ true },
     ghost known: { Spanned (heads zone.bits) (listed lines) lines.rows lines.count },
+    ghost noded: { Noded (heads zone.bits) (listed lines) lines.rows lines.count },
     ghost read: { Read (heads zone.bits) (listed lines) (heads reads.bits) },
     ghost tested: { Tested (heads zone.bits) (listed lines) tests_zone },
     ghost needed: { Needed (heads zone.bits) (listed lines) need },

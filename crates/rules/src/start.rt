@@ -1,7 +1,8 @@
 // The starting rule, and the rules of places.
 ghost use Rattle.std.specs.Prelude.{◌≡◌, [], ◌∷◌};
 ghost use Rattle.rules.specs.Assemble.{starting as starting_formula};
-ghost use Rattle.rules.specs.Places.{means, place_means, Fresh, Numbered};
+ghost use Rattle.rules.specs.Places.{means, place_means, held, start_entry, Fresh, Numbered};
+ghost use Rattle.rules.specs.Rules.{listed};
 
 use crate::place::RulePlace;
 use crate::rule::Rule;
@@ -27,6 +28,7 @@ impl RulePlace {
     // A fresh place: it holds the starting rule, under the numbers 0.
     pub fn fresh() -> RulePlace
         ensures rule { place_means result ≡ (starting_formula, 0 ∷ []) }
+        ensures entries { held result ≡ start_entry ∷ [] }
         ensures numbers { Numbered result 0 0 }
     {
         let mut entries = [Entry::BLANK; ENTRIES];
@@ -43,6 +45,7 @@ impl RulePlace {
     // A place that holds a rule, with the rule's number and its zone's.
     pub fn new(rule: &Rule, rule_number: u16, zone_number: u16) -> RulePlace
         ensures rule { place_means result ≡ means rule.now }
+        ensures entries { held result ≡ listed rule.now }
         ensures numbers { Numbered result rule_number zone_number }
     {
         RulePlace {

@@ -1,11 +1,12 @@
 // The walk through a list of entries, each after the formulas that it takes.
-ghost use Rattle.std.specs.Prelude.{◌≡◌, ◌+◌, ◌<◌, cond, List, length, Ok, Err, MatchResult, nat_le};
+ghost use Rattle.std.specs.Prelude.{◌≡◌, ◌+◌, ◌<◌, cond, List, length, IfOk, Ok, Err, MatchResult, nat_le, slice_index_or};
 ghost use Rattle.formulas.specs.Formula.{Formula};
 ghost use Rattle.entries.specs.Heads.{heads};
 ghost use Rattle.entries.specs.Operations.{model};
-ghost use Rattle.rules.specs.Assemble.{step, stack, inside, outside};
-ghost use Rattle.rules.specs.Lines.{listed, Shows};
-ghost use Rattle.rules.specs.Spans.{Spanned, spanned, more_left};
+ghost use Rattle.rules.specs.Assemble.{blank, step, stack, inside, outside};
+ghost use Rattle.rules.specs.Lines.{listed, line_span, line_node, Shows, Told};
+ghost use Rattle.rules.specs.Nodes.{noded};
+ghost use Rattle.rules.specs.Spans.{spanned, more_left};
 ghost use Rattle.rules.specs.declared.fault.RuleFault.TheVariants.{TooManyFormulas, HorizonTooFar};
 ghost use Rattle.rules.specs.declared.sizes.TheConstants.{HORIZON};
 
@@ -15,7 +16,7 @@ use crate::line::Line;
 use crate::lines::Lines;
 use crate::sizes::HORIZON;
 use crate::span::Span;
-use entries::{HeadSet, Operation};
+use entries::{Entry, HeadSet, Operation};
 
 // The ground against a head test of a head outside the zone.
 fn check_head(entry: usize, op: Operation, zone: HeadSet) -> Result<(), RuleFault>
@@ -51,21 +52,30 @@ fn check_near(entry: usize, horizon: u32) -> Result<(), RuleFault>
 }
 
 impl Lines {
-    // The span of the formula that ends at the next entry, or what is wrong with that entry.
-    fn next_span(&self, draft: &Draft) -> Result<Span, RuleFault>
-        requires { self.now.count < length draft.now.entries.now }
-        ensures { Shows self.now (λ st. spanned (step (heads draft.now.zone.bits) draft.now.entries.now self.now.count st)) result }
+    // The line of the next entry, or what is wrong with it.
+    fn next_line(&self, entry: Entry, draft: &Draft) -> Result<Line, RuleFault>
+        requires next { self.now.count < length draft.now.entries.now }
+        requires same { entry ≡ slice_index_or draft.now.entries.now self.now.count blank }
+        ensures span { Shows self.now (λ st. spanned (step (heads draft.now.zone.bits) draft.now.entries.now self.now.count st)) (line_span result) }
+        ensures node { Shows self.now (λ st. noded self.now.count (step (heads draft.now.zone.bits) draft.now.entries.now self.now.count st)) (line_node result) }
+        ensures entry { IfOk result (λ line. line.entry ≡ entry) }
     {
         let Draft { entries, zone } = *draft;
-        let entry = self.count;
-        let op = entries[entry]
+        let at = self.count;
+        let op = entry
             .operation(zone.size())
-            .ok_or(RuleFault::OutOfRange { entry })?;
-        check_head(entry, op, zone)?;
-        let span = self.span_of(op).ok_or(RuleFault::TooFewFormulas { entry })?;
-        check_alone(entry, span, entries.len())?;
-        check_near(entry, span.horizon)?;
-        Ok(span)
+            .ok_or(RuleFault::OutOfRange { entry: at })?;
+        check_head(at, op, zone)?;
+        let span = self
+            .span_of(op)
+            .ok_or(RuleFault::TooFewFormulas { entry: at })?;
+        check_alone(at, span, entries.len())?;
+        check_near(at, span.horizon)?;
+        Ok(Line {
+            entry,
+            span,
+            node: self.next_node(op),
+        })
     }
 }
 
@@ -73,16 +83,13 @@ impl Draft<'_> {
     // The line of each entry, or the first fault.
     pub(crate) fn walk(&self) -> Result<Lines, RuleFault>
         ensures { MatchResult result
-            (λ l. (listed l ≡ self.now.entries.now) × ((st : List Formula) × (stack (heads self.now.zone.bits) self.now.entries.now (length self.now.entries.now) ≡ Ok st)) × Spanned (heads self.now.zone.bits) self.now.entries.now l.rows (length self.now.entries.now))
+            (λ l. (listed l ≡ self.now.entries.now) × ((st : List Formula) × (stack (heads self.now.zone.bits) self.now.entries.now (length self.now.entries.now) ≡ Ok st)) × Told (heads self.now.zone.bits) self.now.entries.now l.rows (length self.now.entries.now))
             (λ f. stack (heads self.now.zone.bits) self.now.entries.now (length self.now.entries.now) ≡ Err f) }
     {
         let mut lines = Lines::empty();
         for entry in self.entries {
-            let span = lines.next_span(self)?;
-            lines.push(Line {
-                entry: *entry,
-                span,
-            });
+            let line = lines.next_line(*entry, self)?;
+            lines.push(line);
         }
         Ok(lines)
     }

@@ -1,3 +1,4 @@
+pub mod Bounding
 pub mod Kept
 pub mod KthLaws
 pub mod Kths

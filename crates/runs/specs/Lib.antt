@@ -1,3 +1,4 @@
+pub mod Bounds
 pub mod Cells
 pub mod Highest
 pub mod Laws

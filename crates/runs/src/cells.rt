@@ -7,6 +7,9 @@ ghost use Rattle.runs.specs.Cells.{Absent, FoundAt};
 
 use scales::{Scale, compare};
 
+// The levels that are laid out: all of a search in fewer than 8,192 margins, and so all of a window's, which has at most 1,440.
+const LEVELS: u32 = 12;
+
 // 2 to the level where hit, else 0. A shift, and no product or choice, since the compiler makes those a branch.
 fn jump(hit: bool, level: u32) -> usize
     requires { level < 64 }
@@ -29,9 +32,24 @@ fn start<S: Scale>(scale: &S, margins: &[S::Margin], width: usize, m: S::Margin)
     }
 }
 
-// How many of the margins, which lie highest first, are above m. It goes by powers of two, with no branch on a margin:
-// `partition_point`, which branches on each, makes a step of a window half as long again.
-#[tactic(auto, using(crate::proofs::Powers::pow_step))]
+// One step of a search: of the places from base on, twice 2 to the level of them, the half in which the first margin stands
+// that is not above m.
+fn halve<S: Scale>(scale: &S, margins: &[S::Margin], m: S::Margin, base: usize, level: u32) -> usize
+    requires small { level < 64 }
+    requires within { base + 2 * 2 ^ level ≤ length margins.now + 1 }
+    ensures within { result + 2 ^ level ≤ length margins.now + 1 }
+    ensures narrows { let n = above ((S.Scale.model scale.now).whole m) (map (S.Scale.model scale.now).whole margins.now) in Descending (map (S.Scale.model scale.now).whole margins.now) → (base ≤ n) × (n < base + 2 * 2 ^ level) → (result ≤ n) × (n < result + 2 ^ level) }
+{
+    let hit = scale.exceeds(margins[base + jump(true, level) - 1], m);
+    base + jump(hit, level)
+}
+
+// How many of the margins, which lie highest first, are above m. It goes by powers of two and, once it has started, with no
+// branch on a margin: `partition_point`, which branches on each, makes a step of a window half as long again. The last levels,
+// which are all that a window has, go by a loop of a known length, which the compiler lays out as a row of probes; and all of
+// it is laid out in the callers, since a call costs as much as some probes.
+#[inline(always)]
+#[tactic(auto, using(crate::proofs::Powers::pow_step, crate::proofs::Powers::taken, crate::proofs::Powers::skipped))]
 pub(crate) fn place<S: Scale>(scale: &S, margins: &[S::Margin], m: S::Margin) -> usize
     ensures within { result ≤ length margins.now }
     ensures counts { Descending (map (S.Scale.model scale.now).whole margins.now) → result ≡ above ((S.Scale.model scale.now).whole m) (map (S.Scale.model scale.now).whole margins.now) }
@@ -41,9 +59,13 @@ pub(crate) fn place<S: Scale>(scale: &S, margins: &[S::Margin], m: S::Margin) ->
     }
     let top = margins.len().ilog2();
     let mut base = start(scale, margins, jump(true, top), m);
-    for level in (0..top).rev() {
-        let hit = scale.exceeds(margins[base + jump(true, level) - 1], m);
-        base += jump(hit, level);
+    for level in (LEVELS..top).rev() {
+        base = halve(scale, margins, m, base, level);
+    }
+    for level in (0..LEVELS).rev() {
+        if level < top {
+            base = halve(scale, margins, m, base, level);
+        }
     }
     base
 }

@@ -1,8 +1,9 @@
 // The K-th highest of margins in any order.
-ghost use Rattle.std.specs.Prelude.{◌≡◌, Bool, count_by, map};
+ghost use Rattle.std.specs.Prelude.{◌≡◌, Bool, false, count_by, map};
 ghost use Rattle.std.specs.Option.{option_map};
 ghost use Rattle.runs.specs.Highest.{above, at_least};
 ghost use Rattle.runs.specs.Laws.{KthHighest};
+ghost use Rattle.runs.specs.Bounds.{Outside};
 
 use scales::Scale;
 
@@ -38,11 +39,37 @@ fn reaching<S: Scale>(scale: &S, margins: &[S::Margin], m: S::Margin) -> usize
     counted(margins, |x| !scale.exceeds(m, x))
 }
 
-// The K-th highest of the margins; none if K is 0 or above their number.
+// Whether a margin lies above one and below another, as far as these are known.
+fn is_between<S: Scale>(
+    scale: &S,
+    low: Option<S::Margin>,
+    high: Option<S::Margin>,
+    m: S::Margin,
+) -> bool
+    ensures { result ≡ false → Outside (S.Scale.model scale.now).whole low high m }
+{
+    low.is_none_or(|l| scale.exceeds(m, l)) && high.is_none_or(|h| scale.exceeds(h, m))
+}
+
+// The K-th highest of the margins; none if K is 0 or above their number. Each margin tried that is not the one bounds where
+// it lies, so few of them are counted for.
 pub fn pick<S: Scale>(scale: &S, margins: &[S::Margin], k: usize) -> Option<S::Margin>
     ensures { KthHighest k (map (S.Scale.model scale.now).whole margins.now) (option_map (S.Scale.model scale.now).whole result) }
 {
-    let is_kth = |x: &S::Margin| exceeding(scale, margins, *x) < k
-        && k <= reaching(scale, margins, *x);
-    margins.iter().copied().find(is_kth)
+    let mut low = None;
+    let mut high = None;
+    for x in margins {
+        let m = *x;
+        if !is_between(scale, low, high, m) {
+            continue;
+        }
+        if k <= exceeding(scale, margins, m) {
+            low = Some(m);
+        } else if reaching(scale, margins, m) < k {
+            high = Some(m);
+        } else {
+            return Some(m);
+        }
+    }
+    None
 }

@@ -22,10 +22,12 @@ impl TryFrom<u8> for Sense {
     ghost try_from_gives = { Told };
 
     fn try_from(number: u8) -> Result<Sense, UnknownSense> {
-        match number {
-            0 => Ok(Sense::AtLeast),
-            1 => Ok(Sense::AtMost),
-            _ => Err(UnknownSense(number)),
+        if number == Sense::AtLeast as u8 {
+            Ok(Sense::AtLeast)
+        } else if number == Sense::AtMost as u8 {
+            Ok(Sense::AtMost)
+        } else {
+            Err(UnknownSense(number))
         }
     }
 }

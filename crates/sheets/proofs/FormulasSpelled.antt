@@ -4,8 +4,9 @@ use Rattle.std.proofs.lemmas.Bool.{leb-true, and_parts, cases_eq}
 use Rattle.std.proofs.lemmas.List.{take_all, length-drop, drop-drop, take-append-drop}
 use Rattle.std.proofs.lemmas.List.Folds.{concat-append}
 use Rattle.std.specs.List.{concat}
+use Rattle.entries.specs.Writing.{plain_entry}
 use Rattle.entries.specs.declared.entry.Entry.{Entry}
-use Rattle.sheets.specs.Formulas.{Formulas, FormulaReader, taken, head_test_entry, zone_test_entry, window_entry, plain_entry, six_fields, kind_of, entry_of, joined, operands_by, begun, formula_by}
+use Rattle.sheets.specs.Formulas.{Formulas, FormulaReader, taken, head_test_entry, zone_test_entry, window_entry, six_fields, kind_of, entry_of, joined, operands_by, begun, formula_by}
 use Rattle.sheets.specs.Layout.{StretchModel, PieceModel, word_at, limit_at, split, fields, ended}
 use Rattle.sheets.specs.Spelling.{word, limit_bytes, record_bytes}
 use Rattle.sheets.proofs.FormulasBuilt.{field_bytes, built, built_append, built_push, put, put_append}

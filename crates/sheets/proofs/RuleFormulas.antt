@@ -1,9 +1,10 @@
 -- The formula of a rule: what is read is lawful and spelled by the bytes, and what is lawful and spelled is read. Assumes nothing.
-use Rattle.std.proofs.Common.{◌≡◌, ℕ, ◌-◌, List, [], ◌∷◌, ◌++◌, map, length, Ok, Err, Result, sym, refl, ap, ◌∙◌, append-nil, arith}
+use Rattle.std.proofs.Common.{◌≡◌, ℕ, ◌-◌, List, [], ◌∷◌, ◌++◌, map, length, Ok, Err, Result, sym, ap, ◌∙◌, append-nil, arith}
 use Rattle.std.specs.List.{concat}
 use Rattle.formulas.specs.Formula.{Formula}
-use Rattle.entries.specs.Operations.{OperationModel, HeadTest, ZoneTest, Not, Either, Both, Window}
-use Rattle.entries.specs.Writing.{Writes, entry_of}
+use Rattle.entries.proofs.Decoding.{writes}
+use Rattle.entries.specs.Operations.{OperationModel}
+use Rattle.entries.specs.Writing.{entry_of}
 use Rattle.rules.proofs.Assembling.{assembled}
 use Rattle.rules.specs.Assemble.{assemble}
 use Rattle.rules.specs.Lawful.{Lawful}
@@ -48,14 +49,6 @@ module _ (at : ℕ) (heads : List ℕ) (s : StretchModel) (φ : Formula) where
 written : (os : List OperationModel) → Written (map entry_of os) os
 written [] = tt
 written (o ∷ os) = (writes o, written os)
-  where
-    writes : (o : OperationModel) → Writes (entry_of o) o
-    writes (HeadTest h s l) = (refl, refl, refl, refl)
-    writes (ZoneTest k s l) = (refl, refl, refl, refl)
-    writes Not = refl
-    writes Either = refl
-    writes Both = refl
-    writes (Window a b p) = (refl, refl, refl, refl)
 
 pub rule_formula_reads : (at place : ℕ) (heads : List ℕ) (φ : Formula) → Lawful heads φ → rule_formula at heads (record { place = place; bytes = formula_bytes φ }) ≡ Ok φ
 rule_formula_reads at place heads φ law =

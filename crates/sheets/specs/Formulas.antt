@@ -1,8 +1,10 @@
 -- How a formula is read: its entries, each after those of the formulas that it takes. Assumes nothing.
 --     Formulas      entries read, how many formulas may still begin, and what stands behind
 --     formula       the formula that begins a stretch
-use Rattle.std.specs.Prelude.{ℕ, zero, suc, cond, ◌||◌, ◌&&◌, nat_le, List, [], ◌∷◌, ◌++◌, pos, Ok, Err, Result, ◌==◌, ◌-◌}
+use Rattle.std.specs.Prelude.{ℕ, zero, suc, cond, ◌||◌, ◌&&◌, nat_le, List, [], ◌∷◌, ◌++◌, Ok, Err, Result, ◌==◌, ◌-◌}
 use Rattle.faults.specs.Checks.{on}
+use Rattle.entries.specs.Operations.{Window}
+use Rattle.entries.specs.Writing.{plain_entry, entry_of as written_entry}
 use Rattle.entries.specs.declared.entry.Entry.{Entry}
 use Rattle.sheets.specs.declared.fault.SheetFault.{SheetFault}
 use Rattle.sheets.specs.declared.fault.SheetFault.TheVariants.{Misplaced, TooManyFormulas}
@@ -20,10 +22,7 @@ abbrev pub zone_test_entry : List ℕ → Entry
 zone_test_entry xs = record { kind = 17; head = 0; k = byte_at 0 xs; sense = byte_at 1 xs; limit = limit_at 2 xs; first = 0; last = 0; share = 0 }
 
 abbrev pub window_entry : List ℕ → Entry
-window_entry xs = record { kind = 21; head = 0; k = 0; sense = 0; limit = pos 0; first = word_at 0 xs; last = word_at 2 xs; share = word_at 4 xs }
-
-abbrev pub plain_entry : ℕ → Entry
-plain_entry kind = record { kind = kind; head = 0; k = 0; sense = 0; limit = pos 0; first = 0; last = 0; share = 0 }
+window_entry xs = written_entry (Window (word_at 0 xs) (word_at 2 xs) (word_at 4 xs))
 
 -- the entry made of six bytes of fields, and what stands behind them
 abbrev pub six_fields : (List ℕ → Entry) → PieceModel → Result (Entry × StretchModel) SheetFault

@@ -3,18 +3,18 @@
 --     rule          one rule more of a zone
 --     zone          one zone more of a group
 --     group         one group more of a sheet
-use Rattle.std.specs.Prelude.{ℕ, zero, suc, cond, ◌&&◌, List, [], ◌∷◌, ◌++◌, length, take, Ok, Err, Result, ◌==◌, nat_le, nat_lt}
+use Rattle.std.specs.Prelude.{ℕ, zero, suc, cond, ◌&&◌, List, [], ◌∷◌, ◌++◌, length, Ok, Err, Result, ◌==◌, nat_le, nat_lt}
 use Rattle.std.specs.List.{list_any}
 use Rattle.faults.specs.Checks.{on}
-use Rattle.formulas.specs.Formula.{Formula, among}
+use Rattle.formulas.specs.Formula.{Formula}
 use Rattle.rules.specs.Assemble.{assemble, fair}
 use Rattle.rules.specs.declared.fault.RuleFault.{RuleFault}
 use Rattle.rules.specs.declared.sizes.TheConstants.{ENTRIES, ZONE_HEADS}
 use Rattle.sheets.specs.Formulas.{formula}
-use Rattle.sheets.specs.Layout.{StretchModel, PieceModel, behind, word_at, byte_at, split, of_kind, fields, counted, ended}
+use Rattle.sheets.specs.Layout.{StretchModel, PieceModel, word_at, byte_at, split, of_kind, fields, counted, ended}
 use Rattle.sheets.specs.Outlines.{in_a_zone, Outline, SheetGroup, SheetZone, SheetRule, rules_of, zones}
 use Rattle.sheets.specs.declared.fault.SheetFault.{SheetFault}
-use Rattle.sheets.specs.declared.fault.SheetFault.TheVariants.{ShortFields, NameLength, NameByte, HeadCount, HeadAboveTotal, HeadNotRising, HeadInTwoZones, ZoneNumberTwice, RuleNumberTwice, TooManyGroups, TooManyZones, TooManyRules, Rule}
+use Rattle.sheets.specs.declared.fault.SheetFault.TheVariants.{NameLength, NameByte, HeadCount, HeadAboveTotal, HeadNotRising, HeadInTwoZones, ZoneNumberTwice, RuleNumberTwice, TooManyGroups, TooManyZones, TooManyRules, Rule}
 use Rattle.sheets.specs.declared.sizes.TheConstants.{GROUPS, NAME_BYTES, RULES, ZONES}
 
 -- adds what the record that begins a stretch says, and gives what stands behind it

@@ -1,8 +1,6 @@
 -- How a whole sheet is read: what it says, or the first fault. Assumes nothing.
 use Rattle.std.specs.Prelude.{ℕ, zero, suc, ◌+◌, cond, ◌&&◌, List, [], length, drop, Ok, Err, Result, ◌==◌, nat_le}
-use Rattle.std.specs.List.{list_any}
 use Rattle.faults.specs.Checks.{on}
-use Rattle.formulas.specs.Formula.{among}
 use Rattle.rules.specs.Assemble.{fair}
 use Rattle.entries.specs.declared.heads.TheConstants.{HEADS}
 use Rattle.sheets.specs.Layout.{PieceModel, word_at, byte_at, fields}

@@ -3,7 +3,6 @@
 --     Drafted       entries added to a draft are those of the formulas meant
 --     Stands        what a reader has met are these zones
 use Rattle.std.specs.Prelude.{◌≡◌, ℕ, ◌+◌, ◌≤◌, List, [], ◌∷◌, ◌++◌, map, length, Ok, Err, Result, MatchResult}
-use Rattle.std.specs.List.{list_any}
 use Rattle.formulas.specs.Formula.{among}
 use Rattle.entries.specs.Heads.{heads}
 use Rattle.entries.specs.declared.heads.HeadSet.{HeadSet}

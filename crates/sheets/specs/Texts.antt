@@ -1,5 +1,5 @@
 -- How the faults of a sheet read. Assumes nothing.
-use Rattle.std.specs.Prelude.{ℕ, List, ◌++◌, codes, decimal}
+use Rattle.std.specs.Prelude.{ℕ, cond, List, ◌++◌, Some, None, Option, ◌&&◌, nat_le, codes, decimal}
 use Rattle.faults.specs.Texts.{ground_text, place_text}
 use Rattle.entries.specs.declared.heads.TheConstants.{HEADS}
 use Rattle.rules.specs.Faults.{rule_ground}
@@ -34,6 +34,11 @@ sheet_words (TooManyRules at) = codes "a sheet has at most " ++ (decimal RULES +
 sheet_words (TooManyFormulas at) = codes "a rule has at most " ++ (decimal ENTRIES ++ codes " formulas")
 sheet_words (Rule at f) = codes "the rule itself by " ++ (decimal (rule_ground f).number ++ (codes ", at " ++ (place_text (rule_ground f).place ++ (codes ": " ++ rule_words f))))
 sheet_words (TooFewPlaces r n) = decimal r ++ (codes " rules, where there are " ++ (decimal n ++ codes " places"))
+
+-- the words of a fault by a ground of these numbers; none of any other
+abbrev pub words_by : ℕ → ℕ → SheetFault → Option (List ℕ)
+words_by low high fault =
+    cond (nat_le low (sheet_ground fault).number && nat_le (sheet_ground fault).number high) (Some (sheet_words fault)) None
 
 abbrev pub sheet_fault_text : SheetFault → List ℕ
 sheet_fault_text fault = ground_text (sheet_ground fault) ++ (codes ": " ++ sheet_words fault)

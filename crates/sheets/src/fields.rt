@@ -52,21 +52,17 @@ impl<'a> Piece<'a> {
         match kind {
             Kind::HeadTest | Kind::ZoneTest => {
                 let (fields, inside) = self.fields::<6>()?;
-                let test = Entry {
+                let (head, k) = if kind == Kind::HeadTest {
+                    (fields[0], 0)
+                } else {
+                    (0, fields[0])
+                };
+                let entry = Entry {
+                    head,
+                    k,
                     sense: fields[1],
                     limit: limit(fields),
                     ..blank
-                };
-                let entry = if kind == Kind::HeadTest {
-                    Entry {
-                        head: fields[0],
-                        ..test
-                    }
-                } else {
-                    Entry {
-                        k: fields[0],
-                        ..test
-                    }
                 };
                 Ok((entry, inside))
             }

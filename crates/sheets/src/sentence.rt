@@ -1,6 +1,6 @@
 // The sentences that the faults of a sheet print.
 ghost use Rattle.std.specs.Prelude.{Some};
-ghost use Rattle.sheets.specs.Texts.{sheet_fault_text, sheet_words};
+ghost use Rattle.sheets.specs.Texts.{sheet_fault_text, sheet_words, words_by};
 
 use crate::fault::SheetFault;
 use crate::sizes::{GROUPS, NAME_BYTES, RULES, SHEET_BYTES, ZONES};
@@ -9,12 +9,15 @@ use faults::Fault;
 use rules::{ENTRIES, ZONE_HEADS};
 use std::fmt;
 
-// What is wrong, after the ground.
-#[derive(Clone, Copy)]
-struct Words(SheetFault);
+// The sentences stand in parts by their grounds, since one match over all faults is too long for a function. A part says nothing
+// of the faults of another, which `Words` never hands to it.
 
-impl fmt::Display for Words {
-    ghost output = { λ words. Some (sheet_words words.0) };
+// What is wrong with how bytes part into records, where a fault of grounds 13 to 16 is told.
+#[derive(Clone, Copy)]
+struct Form(SheetFault);
+
+impl fmt::Display for Form {
+    ghost output = { λ words. words_by 13 16 words.0 };
 
     fn fmt<W: fmt::Write>(&self, f: &mut fmt::Formatter<W>) -> fmt::Result {
         match self.0 {
@@ -37,6 +40,20 @@ impl fmt::Display for Words {
             SheetFault::BytesLeft { .. } => {
                 write!(f, "bytes are left over at the end of the record")
             }
+            _ => Ok(()),
+        }
+    }
+}
+
+// What is out of range, where a fault of ground 17 is told.
+#[derive(Clone, Copy)]
+struct Range(SheetFault);
+
+impl fmt::Display for Range {
+    ghost output = { λ words. words_by 17 17 words.0 };
+
+    fn fmt<W: fmt::Write>(&self, f: &mut fmt::Formatter<W>) -> fmt::Result {
+        match self.0 {
             SheetFault::HeadTotal { total, .. } => {
                 write!(f, "a total of {total} heads, where a card has 1 to {HEADS}")
             }
@@ -58,6 +75,20 @@ impl fmt::Display for Words {
                     "a zone of {count} heads, where a zone has 1 to {ZONE_HEADS}"
                 )
             }
+            _ => Ok(()),
+        }
+    }
+}
+
+// Which head or number is at odds with others, where a fault of ground 18 is told.
+#[derive(Clone, Copy)]
+struct Odds(SheetFault);
+
+impl fmt::Display for Odds {
+    ghost output = { λ words. words_by 18 18 words.0 };
+
+    fn fmt<W: fmt::Write>(&self, f: &mut fmt::Formatter<W>) -> fmt::Result {
+        match self.0 {
             SheetFault::HeadAboveTotal { head, .. } => {
                 write!(f, "its head {head} is not below the sheet's total")
             }
@@ -74,6 +105,36 @@ impl fmt::Display for Words {
                 write!(f, "an earlier rule has its number {number}")
             }
             SheetFault::HeadInNoZone { head } => write!(f, "head {head} is in no zone"),
+            _ => Ok(()),
+        }
+    }
+}
+
+// What is wrong, after the ground.
+#[derive(Clone, Copy)]
+struct Words(SheetFault);
+
+impl fmt::Display for Words {
+    ghost output = { λ words. Some (sheet_words words.0) };
+
+    fn fmt<W: fmt::Write>(&self, f: &mut fmt::Formatter<W>) -> fmt::Result {
+        match self.0 {
+            SheetFault::Size { .. }
+            | SheetFault::NotASheet
+            | SheetFault::RunsPast { .. }
+            | SheetFault::Misplaced { .. }
+            | SheetFault::ShortFields { .. }
+            | SheetFault::BytesLeft { .. } => write!(f, "{}", Form(self.0)),
+            SheetFault::HeadTotal { .. }
+            | SheetFault::NameLength { .. }
+            | SheetFault::NameByte { .. }
+            | SheetFault::HeadCount { .. } => write!(f, "{}", Range(self.0)),
+            SheetFault::HeadAboveTotal { .. }
+            | SheetFault::HeadNotRising { .. }
+            | SheetFault::HeadInTwoZones { .. }
+            | SheetFault::ZoneNumberTwice { .. }
+            | SheetFault::RuleNumberTwice { .. }
+            | SheetFault::HeadInNoZone { .. } => write!(f, "{}", Odds(self.0)),
             SheetFault::TooManyGroups { .. } => write!(f, "a sheet has at most {GROUPS} groups"),
             SheetFault::TooManyZones { .. } => write!(f, "a sheet has at most {ZONES} zones"),
             SheetFault::TooManyRules { .. } => write!(f, "a sheet has at most {RULES} rules"),

@@ -1,4 +1,7 @@
 // What the words behind the program's name ask for.
+ghost use Rattle.std.specs.Prelude.{◌≡◌};
+ghost use Rattle.soak.specs.Words.{scale_meant};
+
 use std::slice;
 use texts::Written;
 
@@ -11,7 +14,9 @@ pub enum ScaleName {
 
 impl ScaleName {
     // The scale that a word names; counts where there is none.
-    fn of(words: &[String]) -> Option<ScaleName> {
+    fn of(words: &[String]) -> Option<ScaleName>
+        ensures { result ≡ scale_meant words.now }
+    {
         match words {
             [] => Some(ScaleName::Counts),
             [word] => match word.as_str() {

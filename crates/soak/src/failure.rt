@@ -1,7 +1,7 @@
 // Why the program stops short.
 use crate::files::Trouble;
 use desk::Trouble as DeskTrouble;
-use records::LogFault;
+use logs::LogFault;
 use rules::RuleFault;
 use sheets::SheetFault;
 use std::io;

@@ -1,4 +1,7 @@
 // Reading the files that the commissioner names.
+ghost use Rattle.std.specs.Prelude.{◌≡◌};
+ghost use Rattle.soak.specs.Words.{at_most_bytes};
+
 use crate::failure::Failure;
 use std::alloc::Global;
 use std::fs::{self, File};
@@ -56,6 +59,13 @@ fn whole(rt: &HostRuntime, path: &str, most: usize) -> Result<Vec<u8>, Trouble> 
     let mut bytes = Vec::new(rt.alloc());
     let limit = (most as u64).saturating_add(1);
     File::open(rt, path)?.take(limit).read_to_end(&mut bytes)?;
+    at_most(bytes, most)
+}
+
+// The bytes where there are at most so many.
+fn at_most(bytes: Vec<u8>, most: usize) -> Result<Vec<u8>, Trouble>
+    ensures { result ≡ at_most_bytes bytes most }
+{
     if bytes.len() > most {
         return Err(Trouble::TooLong);
     }

@@ -1,11 +1,16 @@
 // The margins of a sheet's rules over a soak.
+ghost use Rattle.std.specs.Prelude.{◌≡◌, ◌==◌, cond, Err, IsErrOf, IsTrue, Ok};
+ghost use Rattle.soak.specs.Jobs.{is_over_input};
+ghost use Rattle.soak.specs.declared.failure.Failure.TheVariants.{OtherCard, PictureOverInput};
+
 use crate::command::{Job, ScaleName, Task};
 use crate::failure::Failure;
 use crate::files;
 use crate::progress::Clock;
 use crate::site::Site;
 use desk::{Measured, Soak};
-use records::{Grid, Log, LogEntry, Record, Word};
+use logs::{Log, LogEntry, Word};
+use records::{Grid, Record};
 use scales::{Counts, Obscuration};
 use std::fs;
 use texts::{Written, WrittenReading, is_log, read_grid, read_log};
@@ -23,7 +28,9 @@ struct Work<'a> {
 }
 
 // Reads the files of a job, and writes what it asks for.
-pub fn run(rt: &HostRuntime, job: Job<'_>) -> Result<(), Failure> {
+pub fn run(rt: &HostRuntime, job: Job<'_>) -> Result<(), Failure>
+    ensures { IsTrue (is_over_input job.entry) → IsErrOf result PictureOverInput }
+{
     if let Task::Plot { picture, .. } = job.task
         && (picture == job.sheet || picture == job.readings)
     {
@@ -80,7 +87,9 @@ impl Work<'_> {
     }
 
     // The readings must be of a card with as many heads as the sheet's.
-    fn check_heads(&self, heads: u32) -> Result<(), Failure> {
+    fn check_heads(&self, heads: u32) -> Result<(), Failure>
+        ensures { result ≡ cond (heads == self.now.site.heads) (Ok tt) (Err (OtherCard heads self.now.site.heads)) }
+    {
         let card = u32::from(self.site.heads);
         if heads != card {
             return Err(Failure::OtherCard { heads, card });

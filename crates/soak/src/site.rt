@@ -1,4 +1,7 @@
 // A loaded sheet.
+ghost use Rattle.std.specs.Prelude.{◌≡◌, IfErr, IfOk};
+ghost use Rattle.soak.specs.declared.failure.Failure.TheVariants.{NoRule};
+
 use crate::failure::Failure;
 use crate::files;
 use rules::RulePlace;
@@ -38,7 +41,10 @@ impl Site {
     }
 
     // The rule of a number.
-    pub fn rule(&self, number: u32) -> Result<RulePlace, Failure> {
+    pub fn rule(&self, number: u32) -> Result<RulePlace, Failure>
+        ensures found { IfOk result (λ place. place.rule_number ≡ number) }
+        ensures none { IfErr result (λ failure. failure ≡ NoRule number) }
+    {
         for place in self.rules() {
             if u32::from(place.rule_number) == number {
                 return Ok(*place);

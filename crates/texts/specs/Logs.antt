@@ -2,7 +2,7 @@
 use Rattle.std.specs.Prelude.{ℕ, ◌+◌, cond, List, [], ◌∷◌, codes, drop, flat_map, Some, None, Ok, Option, Result, nat_eq}
 use Rattle.std.specs.Cmp.Lexicographic.{pointwise}
 use Rattle.std.specs.Option.{option_or}
-use Rattle.records.specs.declared.entries.LogEntry.{LogEntry}
+use Rattle.logs.specs.declared.entries.LogEntry.{LogEntry}
 use Rattle.texts.specs.Parts.{fields}
 use Rattle.texts.specs.Numbers.{natural_read}
 use Rattle.texts.specs.Fields.{at, given, defect_of, fields_fault}

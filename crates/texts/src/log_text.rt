@@ -13,7 +13,7 @@ use crate::lines::{Line, Lines, content};
 use crate::punctuation::{COMMA, LOG_BEGINS, SPACE};
 use crate::refusals::{Defect, ReadError, TextFault};
 use crate::written::{Written, WrittenReading};
-use records::LogEntry;
+use logs::LogEntry;
 use std::alloc::Global;
 
 // The last three fields of a line: two numbers from 0 on and a reading.

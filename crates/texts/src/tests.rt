@@ -1,6 +1,6 @@
 // Examples of grids and logs as texts.
 use crate::{Defect, GridText, LogText, ReadError, TextFault, is_log, read_grid, read_log};
-use records::LogEntry;
+use logs::LogEntry;
 
 #[test]
 fn grids_are_read(rt: HostRuntime) -> Result<(), ReadError> {

@@ -7,7 +7,7 @@ ghost use Rattle.texts.specs.declared.refusals.Defect.{Defect};
 use crate::decimals::obscuration;
 use crate::numbers::{count, natural};
 use crate::refusals::Defect;
-use records::Word;
+use logs::Word;
 use std::num;
 
 // A number that a text writes.

@@ -2,7 +2,7 @@
 use crate::failure::Failure;
 use crate::plain_scales::Plain;
 use crate::random::Random;
-use records::LogEntry;
+use logs::LogEntry;
 use std::alloc::Global;
 
 // How the library is to hold a record.

@@ -1,6 +1,6 @@
 // Scales as the definitions say them: which steps a reading stands for, and what a difference in steps is worth.
 use crate::random::Random;
-use records::Word;
+use logs::Word;
 use scales::{Bounded, OnGrid, VerdictMargin};
 use std::fmt::Debug;
 use std::num::nearest_i32_to_f32;

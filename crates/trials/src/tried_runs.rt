@@ -8,7 +8,8 @@ use crate::plain_watches::Plainly;
 use crate::random::Random;
 use crate::tally::Tally;
 use crate::tried_calls::Bench;
-use records::{Grid, Log, Record};
+use logs::Log;
+use records::{Grid, Record};
 use rules::Rule;
 use scales::{Counts, Obscuration, Panel, Scale, Verdict};
 

@@ -22,10 +22,10 @@ module _ {S Reading Margin : Type 0} (model : S → ScaleModel Reading Margin) (
         (Ok (At (length rows - 1 - horizon (formula w.rule)) (margin (model w.scale).mark (zone w.rule) (formula w.rule) (signal rows) (length rows - 1 - horizon (formula w.rule)))))
     on_cells rows = cond-false (ltb (length cells) (cells_of w.rule)) _ _ (le-ltb (length cells) (cells_of w.rule) (omega arith))
 
-    pub asked_at : (n t : ℕ) (m : Margin) → n ≡ w.rows → z < n → t ≡ w.rows - 1 - z → Latest w.rule n cells (Some m) → Asked model w cells (Ok (At t m))
+    pub asked_at : (n t : ℕ) (m : Margin) → n ≡ w.rows.count → z < n → t ≡ w.rows.count - 1 - z → Latest w.rule n cells (Some m) → Asked model w cells (Ok (At t m))
     asked_at n t m en long at told rest rows h =
         let size = h.count in
-        let latest : Latest w.rule w.rows cells (Some m) = subst (λ k. Latest w.rule k cells (Some m)) en told in
+        let latest : Latest w.rule w.rows.count cells (Some m) = subst (λ k. Latest w.rule k cells (Some m)) en told in
         let sm = model w.scale in
         let poll : t ≡ length rows - 1 - horizon (formula w.rule) = omega arith in
         let late : horizon (formula w.rule) < length rows = omega arith in

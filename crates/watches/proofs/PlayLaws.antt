@@ -81,11 +81,11 @@ pub record Playing {S Reading Margin : Type 0} (model : S → ScaleModel Reading
   pub same_scale : w.scale ≡ w₀.scale
   pub same_length : length cells ≡ length cells₀
   pub behind : drop (cells_of w₀.rule) cells ≡ drop (cells_of w₀.rule) cells₀
-  pub counted : w.rows ≡ w₀.rows + n
+  pub counted : w.rows.count ≡ w₀.rows.count + n
   pub untouched : n ≡ 0 → (w ≡ w₀) × (cells ≡ cells₀)
-  pub unstopped : play_fault (model w₀.scale) w₀.rule rm (length cells₀) w₀.rows first n ≡ None
-  pub kept : (rest : List Margin) (rows : List Row) → Holds (model w₀.scale) w₀.rule w₀.rows (cells₀ ++ rest) rows
-      → Holds (model w₀.scale) w₀.rule w.rows (cells ++ rest) (rows ++ rows_from (model w₀.scale) w₀.rule rm first n)
+  pub unstopped : play_fault (model w₀.scale) w₀.rule rm (length cells₀) w₀.rows.count first n ≡ None
+  pub kept : (rest : List Margin) (rows : List Row) → Holds (model w₀.scale) w₀.rule w₀.rows.count (cells₀ ++ rest) rows
+      → Holds (model w₀.scale) w₀.rule w.rows.count (cells ++ rest) (rows ++ rows_from (model w₀.scale) w₀.rule rm first n)
 
 module _ {S Reading Margin : Type 0} (model : S → ScaleModel Reading Margin) (rm : RecordModel Reading) (first : ℕ) (w₀ : Watch S) (cells₀ : List Margin) where
   pub play_none : Playing model rm first w₀ cells₀ 0 w₀ cells₀
@@ -96,30 +96,30 @@ module _ {S Reading Margin : Type 0} (model : S → ScaleModel Reading Margin) (
     behind = refl;
     counted = omega arith;
     untouched = λ e. (refl, refl);
-    unstopped = no_polls (model w₀.scale) w₀.rule rm (length cells₀) w₀.rows first;
-    kept = λ rest rows h. subst (Holds (model w₀.scale) w₀.rule w₀.rows (cells₀ ++ rest)) (sym (ap (λ ys. rows ++ ys) (no_rows (model w₀.scale) w₀.rule rm first) ∙ append-nil rows)) h;
+    unstopped = no_polls (model w₀.scale) w₀.rule rm (length cells₀) w₀.rows.count first;
+    kept = λ rest rows h. subst (Holds (model w₀.scale) w₀.rule w₀.rows.count (cells₀ ++ rest)) (sym (ap (λ ys. rows ++ ys) (no_rows (model w₀.scale) w₀.rule rm first) ∙ append-nil rows)) h;
   }
 
   module _ (ex : RecordModel Reading) (n : ℕ) (w : Watch S) (cells : List Margin) (w' : Watch S) (cells' : List Margin) (same : (h : ℕ) → ex.at h n ≡ rm.at h (first + n)) (p : Playing model rm first w₀ cells₀ n w cells) where
     -- the refusal of the step, by the start of the play and the record's own poll
-    ground : refusal (model w₀.scale) w₀.rule rm (first + n) (length cells₀) (w₀.rows + n) ≡ option_map (at_poll (first + n)) (refusal (model w.scale) w.rule ex n (length cells) w.rows)
+    ground : refusal (model w₀.scale) w₀.rule rm (first + n) (length cells₀) (w₀.rows.count + n) ≡ option_map (at_poll (first + n)) (refusal (model w.scale) w.rule ex n (length cells) w.rows.count)
     ground =
-        same_refusal (model w₀.scale) w₀.rule ex rm n (first + n) same (length cells₀) (w₀.rows + n)
+        same_refusal (model w₀.scale) w₀.rule ex rm n (first + n) same (length cells₀) (w₀.rows.count + n)
         ∙ ap (option_map (at_poll (first + n)))
-        (along (λ ru sc. refusal (model w₀.scale) w₀.rule ex n (length cells₀) (w₀.rows + n) ≡ refusal (model sc) ru ex n (length cells₀) (w₀.rows + n)) (sym p.same_rule) (sym p.same_scale) refl
-        ∙ along (λ l k. refusal (model w.scale) w.rule ex n (length cells₀) (w₀.rows + n) ≡ refusal (model w.scale) w.rule ex n l k) (sym p.same_length) (sym p.counted) refl)
+        (along (λ ru sc. refusal (model w₀.scale) w₀.rule ex n (length cells₀) (w₀.rows.count + n) ≡ refusal (model sc) ru ex n (length cells₀) (w₀.rows.count + n)) (sym p.same_rule) (sym p.same_scale) refl
+        ∙ along (λ l k. refusal (model w.scale) w.rule ex n (length cells₀) (w₀.rows.count + n) ≡ refusal (model w.scale) w.rule ex n l k) (sym p.same_length) (sym p.counted) refl)
 
     module _ (st : Stepped model ex n w cells w' cells' (Ok tt)) where
-      free : refusal (model w.scale) w.rule ex n (length cells) w.rows ≡ None
-      free = none_told (refusal (model w.scale) w.rule ex n (length cells) w.rows) st.answer
+      free : refusal (model w.scale) w.rule ex n (length cells) w.rows.count ≡ None
+      free = none_told (refusal (model w.scale) w.rule ex n (length cells) w.rows.count) st.answer
 
       -- the rows after the step
-      added : (rest : List Margin) (rows : List Row) → Holds (model w₀.scale) w₀.rule w.rows (cells ++ rest) rows
-          → Holds (model w₀.scale) w₀.rule w'.rows (cells' ++ rest) (rows ++ (row (model w₀.scale) w₀.rule rm (first + n) ∷ []))
+      added : (rest : List Margin) (rows : List Row) → Holds (model w₀.scale) w₀.rule w.rows.count (cells ++ rest) rows
+          → Holds (model w₀.scale) w₀.rule w'.rows.count (cells' ++ rest) (rows ++ (row (model w₀.scale) w₀.rule rm (first + n) ∷ []))
       added rest rows =
-          subst (λ y. Holds (model w₀.scale) w₀.rule w.rows (cells ++ rest) rows → Holds (model w₀.scale) w₀.rule w'.rows (cells' ++ rest) (rows ++ (y ∷ []))) (same_row (model w₀.scale) w₀.rule ex rm n (first + n) same)
-          (along (λ ru sc. Holds (model sc) ru w.rows (cells ++ rest) rows → Holds (model sc) ru w'.rows (cells' ++ rest) (rows ++ (row (model sc) ru ex n ∷ []))) p.same_rule p.same_scale
-          (λ h. subst (λ o. Holds (model w.scale) w.rule w'.rows (cells' ++ rest) (unless o (rows ++ (row (model w.scale) w.rule ex n ∷ [])) rows))
+          subst (λ y. Holds (model w₀.scale) w₀.rule w.rows.count (cells ++ rest) rows → Holds (model w₀.scale) w₀.rule w'.rows.count (cells' ++ rest) (rows ++ (y ∷ []))) (same_row (model w₀.scale) w₀.rule ex rm n (first + n) same)
+          (along (λ ru sc. Holds (model sc) ru w.rows.count (cells ++ rest) rows → Holds (model sc) ru w'.rows.count (cells' ++ rest) (rows ++ (row (model sc) ru ex n ∷ []))) p.same_rule p.same_scale
+          (λ h. subst (λ o. Holds (model w.scale) w.rule w'.rows.count (cells' ++ rest) (unless o (rows ++ (row (model w.scale) w.rule ex n ∷ [])) rows))
           (ap (λ k. refusal (model w.scale) w.rule ex n (length cells) k) (sym h.count) ∙ free) (st.advances.kept rest rows h)))
 
       pub play_more : Playing model rm first w₀ cells₀ (n + 1) w' cells'
@@ -130,9 +130,9 @@ module _ {S Reading Margin : Type 0} (model : S → ScaleModel Reading Margin) (
         behind = subst (λ x. drop (cells_of x) cells' ≡ drop (cells_of x) cells) p.same_rule st.advances.behind ∙ p.behind;
         counted = omega (arith, st.counted, p.counted);
         untouched = λ e. absurd (omega arith);
-        unstopped = here (model w₀.scale) w₀.rule rm (length cells₀) w₀.rows first n p.unstopped ∙ ground ∙ ap (option_map (at_poll (first + n))) free;
+        unstopped = here (model w₀.scale) w₀.rule rm (length cells₀) w₀.rows.count first n p.unstopped ∙ ground ∙ ap (option_map (at_poll (first + n))) free;
         kept = λ rest rows h.
-            subst (Holds (model w₀.scale) w₀.rule w'.rows (cells' ++ rest))
+            subst (Holds (model w₀.scale) w₀.rule w'.rows.count (cells' ++ rest))
             (append_assoc rows (rows_from (model w₀.scale) w₀.rule rm first n) (row (model w₀.scale) w₀.rule rm (first + n) ∷ []) ∙ ap (λ ys. rows ++ ys) (sym (more_rows (model w₀.scale) w₀.rule rm first n)))
             (added rest (rows ++ rows_from (model w₀.scale) w₀.rule rm first n) (p.kept rest rows h));
       }
@@ -142,26 +142,26 @@ module _ {S Reading Margin : Type 0} (model : S → ScaleModel Reading Margin) (
         let sm = model w₀.scale in
         let ru = w₀.rule in
         let l = length cells₀ in
-        let at = some_told (refusal (model w.scale) w.rule ex n (length cells) w.rows) e st.answer in
-        let some : play_fault sm ru rm l w₀.rows first (n + 1) ≡ Some (at_poll (first + n) e) = here sm ru rm l w₀.rows first n p.unstopped ∙ ground ∙ ap (option_map (at_poll (first + n))) at in
+        let at = some_told (refusal (model w.scale) w.rule ex n (length cells) w.rows.count) e st.answer in
+        let some : play_fault sm ru rm l w₀.rows.count first (n + 1) ≡ Some (at_poll (first + n) e) = here sm ru rm l w₀.rows.count first n p.unstopped ∙ ground ∙ ap (option_map (at_poll (first + n))) at in
         let left : suc (polls_to first last - (n + 1)) + n ≡ polls_to first last = omega arith in
         let all : (polls_to first last - (n + 1)) + (n + 1) ≡ polls_to first last = omega arith in
-        let taken : play_rows sm ru rm l w₀.rows first (polls_to first last) ≡ n = ap (play_rows sm ru rm l w₀.rows first) (sym left) ∙ taken_before sm ru rm l w₀.rows first _ n (polls_to first last - (n + 1)) p.unstopped some in
+        let taken : play_rows sm ru rm l w₀.rows.count first (polls_to first last) ≡ n = ap (play_rows sm ru rm l w₀.rows.count first) (sym left) ∙ taken_before sm ru rm l w₀.rows.count first _ n (polls_to first last - (n + 1)) p.unstopped some in
         let still = st.refused refl in
-        let held : (rest : List Margin) (rows : List Row) → Holds sm ru w.rows (cells ++ rest) rows → Holds sm ru w'.rows (cells' ++ rest) rows
-        = λ rest rows h. subst (λ (v : Watch S). Holds sm ru v.rows (cells' ++ rest) rows) (sym still.0) (subst (λ cs. Holds sm ru w.rows (cs ++ rest) rows) (sym still.1) h) in
+        let held : (rest : List Margin) (rows : List Row) → Holds sm ru w.rows.count (cells ++ rest) rows → Holds sm ru w'.rows.count (cells' ++ rest) rows
+        = λ rest rows h. subst (λ (v : Watch S). Holds sm ru v.rows.count (cells' ++ rest) rows) (sym still.0) (subst (λ cs. Holds sm ru w.rows.count (cs ++ rest) rows) (sym still.1) h) in
         record {
           took = is_rows ∙ sym taken;
-          stopped = ap Some is_fault ∙ sym (ap (play_fault sm ru rm l w₀.rows first) (sym all) ∙ stays sm ru rm l w₀.rows first _ (n + 1) (polls_to first last - (n + 1)) some);
+          stopped = ap Some is_fault ∙ sym (ap (play_fault sm ru rm l w₀.rows.count first) (sym all) ∙ stays sm ru rm l w₀.rows.count first _ (n + 1) (polls_to first last - (n + 1)) some);
           untouched = λ z. let q = p.untouched (sym is_rows ∙ z) in (still.0 ∙ q.0, still.1 ∙ q.1);
-          counted = ap (λ (v : Watch S). v.rows) still.0 ∙ p.counted ∙ ap (λ m. w₀.rows + m) (sym is_rows);
+          counted = ap (λ (v : Watch S). v.rows.count) still.0 ∙ p.counted ∙ ap (λ m. w₀.rows.count + m) (sym is_rows);
           advances = record {
             same_rule = st.advances.same_rule ∙ p.same_rule;
             same_scale = st.advances.same_scale ∙ p.same_scale;
             same_length = st.advances.same_length ∙ p.same_length;
             behind = subst (λ x. drop (cells_of x) cells' ≡ drop (cells_of x) cells) p.same_rule st.advances.behind ∙ p.behind;
             kept = λ rest rows h.
-                subst (λ m. Holds sm ru w'.rows (cells' ++ rest) (rows ++ rows_from sm ru rm first m)) (sym (ap (λ j. play_rows sm ru rm l j first (polls_to first last)) (sym h.count) ∙ taken))
+                subst (λ m. Holds sm ru w'.rows.count (cells' ++ rest) (rows ++ rows_from sm ru rm first m)) (sym (ap (λ j. play_rows sm ru rm l j first (polls_to first last)) (sym h.count) ∙ taken))
                 (held rest (rows ++ rows_from sm ru rm first n) (p.kept rest rows h));
           };
         }
@@ -171,19 +171,19 @@ module _ {S Reading Margin : Type 0} (model : S → ScaleModel Reading Margin) (
       let sm = model w₀.scale in
       let ru = w₀.rule in
       let l = length cells₀ in
-      let none : play_fault sm ru rm l w₀.rows first (polls_to first last) ≡ None = ap (play_fault sm ru rm l w₀.rows first) (sym is) ∙ p.unstopped in
-      let taken : play_rows sm ru rm l w₀.rows first (polls_to first last) ≡ n = all_taken sm ru rm l w₀.rows first (polls_to first last) none ∙ sym is in
+      let none : play_fault sm ru rm l w₀.rows.count first (polls_to first last) ≡ None = ap (play_fault sm ru rm l w₀.rows.count first) (sym is) ∙ p.unstopped in
+      let taken : play_rows sm ru rm l w₀.rows.count first (polls_to first last) ≡ n = all_taken sm ru rm l w₀.rows.count first (polls_to first last) none ∙ sym is in
       record {
         took = is_rows ∙ sym taken;
         stopped = sym none;
         untouched = λ z. p.untouched (sym is_rows ∙ z);
-        counted = p.counted ∙ ap (λ m. w₀.rows + m) (sym is_rows);
+        counted = p.counted ∙ ap (λ m. w₀.rows.count + m) (sym is_rows);
         advances = record {
           same_rule = p.same_rule;
           same_scale = p.same_scale;
           same_length = p.same_length;
           behind = p.behind;
           kept = λ rest rows h.
-              subst (λ m. Holds sm ru w.rows (cells ++ rest) (rows ++ rows_from sm ru rm first m)) (sym (ap (λ j. play_rows sm ru rm l j first (polls_to first last)) (sym h.count) ∙ taken)) (p.kept rest rows h);
+              subst (λ m. Holds sm ru w.rows.count (cells ++ rest) (rows ++ rows_from sm ru rm first m)) (sym (ap (λ j. play_rows sm ru rm l j first (polls_to first last)) (sym h.count) ∙ taken)) (p.kept rest rows h);
         };
       }

@@ -13,14 +13,14 @@ use Rattle.watches.proofs.PlayLaws.{along}
 pub record Standing {S Reading Margin : Type 0} (model : S → ScaleModel Reading Margin) (rule : Rule) (scale : S) (rows : List Row) (w : Watch S) (cells : List Margin) : Type 0 where
   pub rule_is : w.rule ≡ rule
   pub scale_is : w.scale ≡ scale
-  pub holds : Holds (model scale) rule w.rows cells rows
+  pub holds : Holds (model scale) rule w.rows.count cells rows
 
 advanced : {S Reading Margin : Type 0} (model : S → ScaleModel Reading Margin) (rule : Rule) (scale : S) (rows : List Row) (w w' : Watch S) (front front' rest : List Margin) (next : ScaleModel Reading Margin → Rule → List Row → List Row)
     → Standing model rule scale rows w (front ++ rest) → Advances model w front w' front' (next (model w.scale) w.rule) → Standing model rule scale (next (model scale) rule rows) w' (front' ++ rest)
 advanced model rule scale rows w w' front front' rest next s a = record {
   rule_is = a.same_rule ∙ s.rule_is;
   scale_is = a.same_scale ∙ s.scale_is;
-  holds = along (λ ru sc. Holds (model sc) ru w.rows (front ++ rest) rows → Holds (model sc) ru w'.rows (front' ++ rest) (next (model sc) ru rows)) s.rule_is s.scale_is (a.kept rest rows) s.holds;
+  holds = along (λ ru sc. Holds (model sc) ru w.rows.count (front ++ rest) rows → Holds (model sc) ru w'.rows.count (front' ++ rest) (next (model sc) ru rows)) s.rule_is s.scale_is (a.kept rest rows) s.holds;
 }
 
 pub stands : {S Reading Margin : Type 0} {model : S → ScaleModel Reading Margin} {rule : Rule} {scale : S} {calls : List (Call Reading)} {w : Watch S} {cells : List Margin}
@@ -37,5 +37,5 @@ stands {model = model} (Run.clear {w' = w'} {cells = cells} run done) =
     record {
       rule_is = done.same_rule ∙ s.rule_is;
       scale_is = done.same_scale ∙ s.scale_is;
-      holds = along (λ ru sc. Holds (model sc) ru w'.rows cells []) s.rule_is s.scale_is (done.holds cells);
+      holds = along (λ ru sc. Holds (model sc) ru w'.rows.count cells []) s.rule_is s.scale_is (done.holds cells);
     }

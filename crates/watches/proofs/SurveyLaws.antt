@@ -66,8 +66,8 @@ module _ {Reading Margin : Type 0} (sm : ScaleModel Reading Margin) (rule : Rule
     holds = λ enough none rest. subst (Holds sm.mark sm.whole rule 0 (cells ++ rest)) (sym (no_rows sm rule rm t)) (holds_none sm.mark sm.whole rule (cells ++ rest));
   }
 
-  pub taken_more : (n p : ℕ) (xs ys zs : List Margin) (took : Bool) → p ≡ t + n → Advanced sm rule (row_at rm p) n ys zs took → Taken sm rule rm t n xs ys → Taken sm rule rm t (n + 1) xs zs
-  taken_more n p xs ys zs took ep a inv = record {
+  pub taken_more : (n k p : ℕ) (xs ys zs : List Margin) (took : Bool) → k ≡ n → p ≡ t + n → Advanced sm rule (row_at rm p) k ys zs took → Taken sm rule rm t n xs ys → Taken sm rule rm t (n + 1) xs zs
+  taken_more n k p xs ys zs took ek ep a inv = record {
     same_length = a.long ∙ inv.same_length;
     behind = a.behind ∙ inv.behind;
     holds = λ enough none rest.
@@ -75,7 +75,8 @@ module _ {Reading Margin : Type 0} (sm : ScaleModel Reading Margin) (rule : Rule
         let yes : took ≡ true = a.told ∙ le-leb (cells_of rule) (length ys) (omega (arith, inv.same_length)) in
         let fine : row_fault sm rule rm p ≡ None = ap (row_fault sm rule rm) ep ∙ both.1 in
         subst (Holds sm.mark sm.whole rule (n + 1) (zs ++ rest)) (ap (λ q. rows_from sm rule rm t n ++ (row sm rule rm q ∷ [])) ep ∙ sym (more_rows sm rule rm t n))
-        (a.holds yes (row sm rule rm p) (row_lit sm rule rm p fine) rest (rows_from sm rule rm t n) (inv.holds enough both.0 rest));
+        (subst (λ j. Holds sm.mark sm.whole rule j (ys ++ rest) (rows_from sm rule rm t n) → Holds sm.mark sm.whole rule (j + 1) (zs ++ rest) (rows_from sm rule rm t n ++ (row sm rule rm p ∷ []))) ek
+        (a.holds yes (row sm rule rm p) (row_lit sm rule rm p fine) rest (rows_from sm rule rm t n)) (inv.holds enough both.0 rest));
   }
 
   -- ---- the margin of the rows is that of the record

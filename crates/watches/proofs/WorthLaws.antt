@@ -78,4 +78,4 @@ after_every_run model w front r asked rule scale calls rest run =
     let s = stands run in
     let rows = accepted (model scale) rule calls in
     worth (model scale) rule rows (length front) r
-    (along (λ ru sc. Holds (model sc) ru w.rows (front ++ rest) rows → meant (model sc).whole r ≡ reply (model sc) ru rows (length front)) s.rule_is s.scale_is (asked rest rows) s.holds)
+    (along (λ ru sc. Holds (model sc) ru w.rows.count (front ++ rest) rows → meant (model sc).whole r ≡ reply (model sc) ru rows (length front)) s.rule_is s.scale_is (asked rest rows) s.holds)

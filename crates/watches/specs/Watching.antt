@@ -26,21 +26,21 @@ pub record Advances {S Reading Margin : Type 0} (model : S → ScaleModel Readin
   pub same_scale : w'.scale ≡ w.scale
   pub same_length : length cells' ≡ length cells
   pub behind : drop (cells_of w.rule) cells' ≡ drop (cells_of w.rule) cells
-  pub kept : (rest : List Margin) (rows : List Row) → Holds (model w.scale) w.rule w.rows (cells ++ rest) rows → Holds (model w.scale) w.rule w'.rows (cells' ++ rest) (next rows)
+  pub kept : (rest : List Margin) (rows : List Row) → Holds (model w.scale) w.rule w.rows.count (cells ++ rest) rows → Holds (model w.scale) w.rule w'.rows.count (cells' ++ rest) (next rows)
 
 -- the making: no rows, and whatever the cells hold, they stand for none
 pub record Made {S Reading Margin : Type 0} (model : S → ScaleModel Reading Margin) (rule : Rule) (scale : S) (w : Watch S) : Type 0 where
   pub made_rule : w.rule ≡ rule
   pub made_scale : w.scale ≡ scale
-  pub no_rows : w.rows ≡ 0
-  pub holds : (cells : List Margin) → Holds (model scale) rule w.rows cells []
+  pub no_rows : w.rows.count ≡ 0
+  pub holds : (cells : List Margin) → Holds (model scale) rule w.rows.count cells []
 
 -- clear: no rows, as at the making
 pub record Cleared {S Reading Margin : Type 0} (model : S → ScaleModel Reading Margin) (w w' : Watch S) : Type 0 where
   pub same_rule : w'.rule ≡ w.rule
   pub same_scale : w'.scale ≡ w.scale
-  pub no_rows : w'.rows ≡ 0
-  pub holds : (cells : List Margin) → Holds (model w.scale) w.rule w'.rows cells []
+  pub no_rows : w'.rows.count ≡ 0
+  pub holds : (cells : List Margin) → Holds (model w.scale) w.rule w'.rows.count cells []
 
 -- one more row written into the cells, where n rows are there
 pub record Written {Reading Margin : Type 0} (sm : ScaleModel Reading Margin) (rule : Rule) (rm : RecordModel Reading) (poll n : ℕ) (cells cells' : List Margin) (r : Result (Unit {0}) WatchFault) : Type 0 where
@@ -52,20 +52,20 @@ pub record Written {Reading Margin : Type 0} (sm : ScaleModel Reading Margin) (r
 
 -- step: the ground that refuses it, if one does, and then everything is as it was; else one row more
 pub record Stepped {S Reading Margin : Type 0} (model : S → ScaleModel Reading Margin) (rm : RecordModel Reading) (poll : ℕ) (w : Watch S) (cells : List Margin) (w' : Watch S) (cells' : List Margin) (r : Result (Unit {0}) WatchFault) : Type 0 where
-  pub answer : r ≡ checked (refusal (model w.scale) w.rule rm poll (length cells) w.rows)
+  pub answer : r ≡ checked (refusal (model w.scale) w.rule rm poll (length cells) w.rows.count)
   pub refused : is_err r ≡ true → (w' ≡ w) × (cells' ≡ cells)
-  pub counted : w'.rows ≡ cond (is_err r) w.rows (w.rows + 1)
+  pub counted : w'.rows.count ≡ cond (is_err r) w.rows.count (w.rows.count + 1)
   pub advances : Advances model w cells w' cells' (after_step (model w.scale) w.rule rm poll (length cells))
 
 -- play: the rows of the polls before the first refusal, and that refusal; where it takes none, everything is as it was
 pub record Played {S Reading Margin : Type 0} (model : S → ScaleModel Reading Margin) (rm : RecordModel Reading) (first last : ℕ) (w : Watch S) (cells : List Margin) (w' : Watch S) (cells' : List Margin) (r : Play) : Type 0 where
-  pub took : r.rows ≡ play_rows (model w.scale) w.rule rm (length cells) w.rows first (polls_to first last)
-  pub stopped : r.fault ≡ play_fault (model w.scale) w.rule rm (length cells) w.rows first (polls_to first last)
+  pub took : r.rows ≡ play_rows (model w.scale) w.rule rm (length cells) w.rows.count first (polls_to first last)
+  pub stopped : r.fault ≡ play_fault (model w.scale) w.rule rm (length cells) w.rows.count first (polls_to first last)
   pub untouched : r.rows ≡ 0 → (w' ≡ w) × (cells' ≡ cells)
-  pub counted : w'.rows ≡ w.rows + r.rows
+  pub counted : w'.rows.count ≡ w.rows.count + r.rows
   pub advances : Advances model w cells w' cells' (after_play (model w.scale) w.rule rm first last (length cells))
 
 -- ask: the reply for whatever rows the watch and the cells stand for, with any cells behind
 abbrev pub Asked : {S Reading Margin : Type 0} → (S → ScaleModel Reading Margin) → Watch S → List Margin → Result (Answer Margin) WatchFault → Type 0
 Asked {Margin = Margin} model w cells r =
-    (rest : List Margin) (rows : List Row) → Holds (model w.scale) w.rule w.rows (cells ++ rest) rows → meant (model w.scale).whole r ≡ reply (model w.scale) w.rule rows (length cells)
+    (rest : List Margin) (rows : List Row) → Holds (model w.scale) w.rule w.rows.count (cells ++ rest) rows → meant (model w.scale).whole r ≡ reply (model w.scale) w.rule rows (length cells)

@@ -8,7 +8,7 @@ ghost use Rattle.watches.specs.Surveys.{polls_fault, survey_fault, Taken, Survey
 use crate::cells::check_cells;
 use crate::refusals::WatchFault;
 use crate::source::Source;
-use layout::{latest_margin, take_row};
+use layout::{Rows, latest_margin, take_row};
 use records::Record;
 use rules::Rule;
 use scales::Scale;
@@ -42,21 +42,25 @@ impl<'a, S: Scale, R: Record<Reading = S::Reading>> Source<'a, S, R> {
         self.check_polls(poll)
     }
 
-    // Takes the polls that the rule looks at from one poll on as rows.
-    fn take_polls(&self, cells: &mut [S::Margin], poll: u32)
+    // Takes the polls that the rule looks at from one poll on as rows, and tells how many.
+    fn take_polls(&self, cells: &mut [S::Margin], poll: u32) -> Rows
         requires { poll + horizon_of (formula self.now.rule.now) < 2 ^ 32 }
-        ensures { Taken (S.Scale.model self.now.scale.now) self.now.rule.now (R.Record.model self.now.«record».now) poll (horizon_of (formula self.now.rule.now) + 1) cells.old cells.new }
+        ensures taken { Taken (S.Scale.model self.now.scale.now) self.now.rule.now (R.Record.model self.now.«record».now) poll (horizon_of (formula self.now.rule.now) + 1) cells.old cells.new }
+        ensures count { result.count ≡ horizon_of (formula self.now.rule.now) + 1 }
     {
+        let mut rows = Rows::none(self.rule);
         for ahead in 0..self.rule.horizon() + 1 {
             let _ = take_row(
                 self.scale,
                 self.rule,
-                ahead,
+                rows,
                 self.record,
                 poll + ahead,
                 cells,
             );
+            rows = rows.next();
         }
+        rows
     }
 }
 
@@ -77,6 +81,6 @@ pub fn survey<S: Scale, R: Record<Reading = S::Reading>>(
         record,
     };
     source.check_survey(cells.len(), poll)?;
-    source.take_polls(cells, poll);
-    Ok(latest_margin(rule, rule.horizon() + 1, cells).unwrap())
+    let rows = source.take_polls(cells, poll);
+    Ok(latest_margin(rule, rows, cells).unwrap())
 }

@@ -1,4 +1,8 @@
 // A watch of one rule on one scale.
+ghost use Rattle.std.specs.Prelude.{◌≡◌};
+ghost use Rattle.layout.specs.Shape.{shape};
+
+use layout::Rows;
 use rules::Rule;
 
 mod calls;
@@ -9,5 +13,6 @@ mod playing;
 pub struct Watch<S> {
     rule: Rule,
     scale: S,
-    rows: u32,
+    rows: Rows,
+    ghost fits: { rows.ring ≡ (shape rule).ring },
 }

@@ -9,7 +9,7 @@ use crate::cells::check_cells;
 use crate::refusals::{ROWS, WatchFault};
 use crate::source::Source;
 use crate::watch::Watch;
-use layout::{latest_margin, take_row};
+use layout::{Rows, latest_margin, take_row};
 use records::Record;
 use rules::Rule;
 use scales::Scale;
@@ -22,7 +22,7 @@ impl<S: Scale> Watch<S> {
         Watch {
             rule,
             scale,
-            rows: 0,
+            rows: Rows::none(&rule),
         }
     }
 
@@ -37,7 +37,7 @@ impl<S: Scale> Watch<S> {
     pub fn clear(&mut self)
         ensures { Cleared S.Scale.model self.old self.new }
     {
-        self.rows = 0;
+        self.rows = Rows::none(&self.rule);
     }
 
     // Writes one row more into the cells, or says why it is none.
@@ -47,11 +47,11 @@ impl<S: Scale> Watch<S> {
         record: &R,
         poll: u32,
     ) -> Result<(), WatchFault>
-        ensures { Written (S.Scale.model self.now.scale) self.now.rule (R.Record.model «record».now) poll self.now.rows cells.old cells.new result }
+        ensures { Written (S.Scale.model self.now.scale) self.now.rule (R.Record.model «record».now) poll self.now.rows.count cells.old cells.new result }
     {
         let lent = cells.len();
         check_cells(&self.rule, lent)?;
-        if self.rows >= ROWS {
+        if self.rows.count() >= ROWS {
             return Err(WatchFault::Full);
         }
         let source = Source {
@@ -74,7 +74,7 @@ impl<S: Scale> Watch<S> {
         ensures { Stepped S.Scale.model (R.Record.model «record».now) poll self.old cells.old self.new cells.new result }
     {
         self.write_row(cells, record, poll)?;
-        self.rows += 1;
+        self.rows = self.rows.next();
         Ok(())
     }
 
@@ -83,14 +83,15 @@ impl<S: Scale> Watch<S> {
         ensures { Asked S.Scale.model self.now cells.now result }
     {
         check_cells(&self.rule, cells.len())?;
+        let rows = self.rows.count();
         let horizon = self.rule.horizon();
         let Some(margin) = latest_margin(&self.rule, self.rows, cells) else {
             return Ok(Answer::Waiting {
-                rows: horizon + 1 - self.rows,
+                rows: horizon + 1 - rows,
             });
         };
         Ok(Answer::At {
-            poll: self.rows - 1 - horizon,
+            poll: rows - 1 - horizon,
             margin,
         })
     }

@@ -4,7 +4,7 @@ use Rattle.desk.proofs.outcome.TallyListener.hear.Goals as goal
 use Rattle.desk.proofs.outcome.TallyListener.hear.Goals.{in-None, in-Some}
 
 pub returns-clause-heard : goal.returns-clause-heard
-returns-clause-heard c answers n few e old =
+returns-clause-heard c first answers n few e old =
     elim c.match-self.branch [
       | in-None w ↦
           let none = subst (Tallied answers n) w.in-None.is old in

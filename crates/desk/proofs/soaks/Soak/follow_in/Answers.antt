@@ -38,13 +38,14 @@ returns-in_err-answered-clause-told g c =
     let within = subst (λ k. c.loop-poll.poll < k) c.polls-poll-end.ensures c.loop-poll-test.true in
     let told : c.from_residual.result ≡ Err (Refused c.in_err-answered.field-0.0) = search rules in
     let taken = c.in_err-answered.ensures c.args.rule.now within c.loop-poll.invariant.follows in
-    subst (TellsFirst _) (sym told)
+    subst (TellsFirst g.L.Listener.stops _) (sym told)
     (stopped g.S.Scale.model c.args.rule.now c.args.self.now.scale rm g.L.Listener.heard c.loop-poll.poll _ _ _ _ _ _ c.loop-poll.invariant c.in_err-answered.field-0.0 within taken.told)
 
 pub returns-in_err-hear-clause-told : goal.returns-in_err-hear-clause-told
 returns-in_err-hear-clause-told g c =
     let told : c.from_residual-in_err-hear.result ≡ Err c.in_err-hear.field-0.0 = search rules in
-    subst (TellsFirst _) (sym told) (outside_tells (Unit {0}) _ c.in_err-hear.field-0.0 c.in_err-hear.ensures.outside)
+    subst (TellsFirst g.L.Listener.stops _) (sym told)
+    (outside_tells (Unit {0}) g.L.Listener.stops _ c.in_err-hear.field-0.0 c.in_err-hear.ensures.outside (λ e. subst g.L.Listener.stops e c.in_err-hear.ensures.stops))
 
 pub returns-clause-told : goal.returns-clause-told
 returns-clause-told g c =
@@ -52,7 +53,7 @@ returns-clause-told g c =
     subst (λ k. polls_fault (g.S.Scale.model c.args.self.now.scale) c.args.rule.now (g.R.Record.model c.args.self.now.«record».now) 0 k ≡ None) all c.loop-poll.invariant.fine
 
 pub returns-clause-heard : goal.returns-clause-heard
-returns-clause-heard g c h =
+returns-clause-heard g c first h =
     let all : c.loop-poll.poll ≡ (g.R.Record.model c.args.self.now.«record».now).polls = omega arith in
-    subst (λ k. g.L.Listener.heard c.loop-poll.listener (k - horizon (formula c.args.rule.now)) (answers_of (g.S.Scale.model c.args.self.now.scale) c.args.rule.now (g.R.Record.model c.args.self.now.«record».now)))
-    all (c.loop-poll.invariant.hears h)
+    subst (λ k. g.L.Listener.heard first c.loop-poll.listener (k - horizon (formula c.args.rule.now)) (answers_of (g.S.Scale.model c.args.self.now.scale) c.args.rule.now (g.R.Record.model c.args.self.now.«record».now)))
+    all (c.loop-poll.invariant.hears first h)

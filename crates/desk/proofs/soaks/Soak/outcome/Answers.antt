@@ -1,5 +1,5 @@
-use Rattle.std.proofs.Common.{refl}
+use Rattle.std.proofs.Common.{None, refl}
 use Rattle.desk.proofs.soaks.Soak.outcome.Goals as goal
 
 pub returns-clause-outcome : goal.returns-clause-outcome
-returns-clause-outcome g c = c.outcome_of.ensures _ (c.in_ok-follow.ensures.heard refl)
+returns-clause-outcome g c = c.outcome_of.ensures _ (c.in_ok-follow.ensures.heard (record { summary = None }) refl)

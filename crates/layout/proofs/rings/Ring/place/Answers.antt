@@ -1,17 +1,28 @@
-use Rattle.std.proofs.Common.{◌*◌, ap, arith}
+use Rattle.std.proofs.Common.{◌-◌, ◌*◌, ◌%◌, ap, arith}
 use Rattle.layout.specs.Shape.{shape}
 use Rattle.layout.proofs.Shapes.{standing}
 use Rattle.layout.proofs.Moves.{ring_place}
 use Rattle.layout.proofs.rings.Ring.place.Goals as goal
 
 pub overflow_mul-result : goal.overflow_mul-result
-overflow_mul-result g c = let r = c.args.self.now.rule.now in
-    omega (arith, (ring_place (shape r) c.args.self.now.at c.args.row _ (standing r _ c.args.self.now.enough) c.args.self.now.below).2, ap (λ size. c.args.self.now.at * size) c.ring_size-size.ensures)
+overflow_mul-result g c =
+    let ring = c.args.self.now in
+    let r = ring.rule.now in
+    omega (arith, (ring_place (shape r) ring.at (ring.rows.count - c.args.back) _ (standing r _ ring.enough) ring.below).2, ap (λ size. ring.at * size) ring.fits)
 
 pub overflow_add-result : goal.overflow_add-result
-overflow_add-result g c = let r = c.args.self.now.rule.now in
-    omega (arith, (ring_place (shape r) c.args.self.now.at c.args.row _ (standing r _ c.args.self.now.enough) c.args.self.now.below).2, ap (λ size. c.args.self.now.at * size) c.ring_size-size.ensures, c.slot_at.ensures)
+overflow_add-result g c =
+    let ring = c.args.self.now in
+    let r = ring.rule.now in
+    omega (arith, (ring_place (shape r) ring.at (ring.rows.count - c.args.back) _ (standing r _ ring.enough) ring.below).2, ap (λ size. ring.at * size) ring.fits, c.slot_back.ensures, ap (λ size. (ring.rows.count - c.args.back) % size) ring.fits)
+
+pub returns-clause-place : goal.returns-clause-place
+returns-clause-place g c =
+    let ring = c.args.self.now in
+    omega (arith, ap (λ size. ring.at * size) ring.fits, c.slot_back.ensures, ap (λ size. (ring.rows.count - c.args.back) % size) ring.fits)
 
 pub returns-clause-within : goal.returns-clause-within
-returns-clause-within g c = let r = c.args.self.now.rule.now in
-    omega (arith, (ring_place (shape r) c.args.self.now.at c.args.row _ (standing r _ c.args.self.now.enough) c.args.self.now.below).2, ap (λ size. c.args.self.now.at * size) c.ring_size-size.ensures, c.slot_at.ensures)
+returns-clause-within g c =
+    let ring = c.args.self.now in
+    let r = ring.rule.now in
+    omega (arith, (ring_place (shape r) ring.at (ring.rows.count - c.args.back) _ (standing r _ ring.enough) ring.below).2, ap (λ size. ring.at * size) ring.fits, c.slot_back.ensures, ap (λ size. (ring.rows.count - c.args.back) % size) ring.fits)

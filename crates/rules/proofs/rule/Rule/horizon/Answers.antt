@@ -7,5 +7,5 @@ overflow_sub-result c = omega (arith, some c.args.self.now, listed-length c.args
 
 pub returns : goal.returns
 returns c =
-    let is = horizon_is c.args.self.now c.len.result c.len.ensures.value in
+    let is = horizon_is c.args.self.now c.len.result c.index-self-len.result c.len.ensures.value in
     record { value = is; near = omega (arith, is, (lawful_is c.args.self.now).near) }

@@ -22,7 +22,7 @@ loop-taken-preserved g c =
 
 pub overflow_cast-result-2 : goal.overflow_cast-result-2
 overflow_cast-result-2 g c =
-    omega (arith, few_taken (g.S.Scale.model c.args.self.now.scale) c.args.self.now.rule (g.R.Record.model c.args.«record».now) (length c.args.cells.now) c.args.self.now.rows c.args.first c.loop-taken.taken c.loop-taken.invariant.unstopped, c.loop-taken-test.false)
+    omega (arith, few_taken (g.S.Scale.model c.args.self.now.scale) c.args.self.now.rule (g.R.Record.model c.args.«record».now) (length c.args.cells.now) c.args.self.now.rows.count c.args.first c.loop-taken.taken c.loop-taken.invariant.unstopped, c.loop-taken-test.false)
 
 pub returns : goal.returns
 returns g c =

@@ -1,7 +1,6 @@
--- Writes one after another. Assumes nothing.
-use Rattle.std.proofs.Common.{◌≡◌, ℕ, List, [], ◌++◌, append_assoc, sym, ap, ◌∙◌, subst}
+-- The picture of a rule's columns is that of its answers. Assumes nothing.
+use Rattle.std.proofs.Common.{◌≡◌, ℕ, List, ap, ◌∙◌, subst}
 use Rattle.std.specs.Fmt.{WritesInCalls}
-use Rattle.std.proofs.Output.{writes_in_calls_append, writes_in_calls_nil}
 use Rattle.formulas.specs.Formula.{Formula, horizon}
 use Rattle.records.specs.Model.{RecordModel}
 use Rattle.rules.specs.Rules.{zone, formula}
@@ -10,30 +9,13 @@ use Rattle.scales.specs.Model.{ScaleModel}
 use Rattle.desk.specs.Answers.{answered_at, answers_of, polls_of}
 use Rattle.desk.specs.Columns.{columns_of, each_of}
 use Rattle.desk.specs.Frames.{fall_over, frame_over, frame_shown, framed, rise_of}
-use Rattle.desk.specs.Pictures.{Writes, WritesLast, last_text, sketch_in, sketch_over, sketch_shown}
+use Rattle.desk.specs.Pictures.{last_text, sketch_in, sketch_over, sketch_shown}
 use Rattle.desk.specs.Summaries.{IsOutcome}
 use Rattle.desk.specs.declared.amount.Unit.{Unit}
 use Rattle.desk.specs.declared.answered.Answered.{Answered}
 use Rattle.desk.specs.declared.columns.Column.{Column}
 use Rattle.desk.specs.declared.outcome.Outcome.{Outcome}
 use Rattle.desk.proofs.FrameLaws.{fall_columns, rise_columns}
-
-module _ {W : Type 0} (took : W → List ℕ → W → Type 0) where
-  pub nothing : (w : W) → Writes took w w
-  nothing w = ([], writes_in_calls_nil took w)
-
-  pub then_writes : (w v u : W) (text : List ℕ) → Writes took w v → WritesInCalls took v text u → Writes took w u
-  then_writes w v u text before last = (before.0 ++ text, writes_in_calls_append took w before.0 v text u before.1 last)
-
-  pub both_write : (w v u : W) → Writes took w v → Writes took v u → Writes took w u
-  both_write w v u before last = then_writes w v u last.0 before last.1
-
-  pub last_words : (w v u : W) (words : List ℕ) → Writes took w v → WritesInCalls took v words u → WritesLast took w words u
-  last_words w v u words before last = (before.0, writes_in_calls_append took w before.0 v words u before.1 last)
-
-  pub then_last : (w v u : W) (words : List ℕ) → Writes took w v → WritesLast took v words u → WritesLast took w words u
-  then_last w v u words before last =
-      (before.0 ++ last.0, subst (λ t. WritesInCalls took w t u) (sym (append_assoc before.0 last.0 words)) (writes_in_calls_append took w before.0 v (last.0 ++ words) u before.1 last.1))
 
 -- what a rule comes to is what its zone and formula come to
 pub outcome_are : {Reading Margin : Type 0} (sm : ScaleModel Reading Margin) (rm : RecordModel Reading) (rule : Rule) (zone' : List ℕ) (φ : Formula) (o : Outcome) → zone rule ≡ zone' → formula rule ≡ φ

@@ -1,13 +1,11 @@
--- What a picture says in words. Assumes nothing.
+-- A picture as text. Assumes nothing.
 --     names_text     the rule and its zone, and the axes
 --     ringed_text    its nearest margin, ringed
 --     sketch_text    lines, ticks, band and the nearest margin
 --     last_text      the sketch, or how many rows are to come
---     Writes         something is written
---     WritesLast     these words are written last
---     IsPicture      heading and axes are written, then the sketch or the rows to come, then the picture's end
-use Rattle.std.specs.Prelude.{ℕ, List, ◌++◌, pos, codes, decimal}
-use Rattle.std.specs.Fmt.{WritesInCalls}
+--     picture_text   all of the picture
+--     IsPicture      a text is the picture of what a rule comes to
+use Rattle.std.specs.Prelude.{◌≡◌, ℕ, List, ◌++◌, pos, codes, decimal}
 use Rattle.formulas.specs.Formula.{horizon}
 use Rattle.records.specs.Model.{RecordModel}
 use Rattle.rules.specs.Places.{place_means}
@@ -42,8 +40,12 @@ along_text = codes "<text x=\"" ++ (decimal 535 ++ (codes "\" y=\"" ++ (decimal 
 abbrev pub up_text : Unit → List ℕ
 up_text unit = codes "<text transform=\"translate(24 " ++ (decimal 245 ++ (codes ") rotate(-90)\" text-anchor=\"middle\">margin in " ++ (unit_text unit ++ codes "</text>\n")))
 
+-- where the heading stands
+abbrev pub title_text : List ℕ
+title_text = codes "<text x=\"" ++ (decimal 100 ++ codes "\" y=\"30\" font-size=\"18\">")
+
 abbrev pub names_text : Unit → RulePlace → List ℕ
-names_text unit place = heading_text place ++ (along_text ++ up_text unit)
+names_text unit place = title_text ++ (heading_text place ++ (along_text ++ up_text unit))
 
 -- a ring around what stands there
 abbrev pub ring_text : ℕ → ℕ → List ℕ
@@ -96,19 +98,23 @@ abbrev pub last_text : Unit → (ℕ → Answered) → ℕ → Outcome → List 
 last_text unit answers n (outcome.Waiting rows) = waiting_text rows
 last_text unit answers n (outcome.Answered s) = sketch_shown unit answers n s.nearest
 
-abbrev pub Writes : {W : Type 0} → (W → List ℕ → W → Type 0) → W → W → Type 0
-Writes took w v = (text : List ℕ) × WritesInCalls took w text v
+-- white paper of the picture's size
+abbrev pub open_text : List ℕ
+open_text =
+    codes "<svg xmlns=\"http://www.w3.org/2000/svg\" viewBox=\"0 0 " ++ (decimal 1000 ++ (codes " " ++ (decimal 480 ++ codes "\" font-family=\"sans-serif\" font-size=\"13\">\n")))
 
--- something, and these words at its end
-abbrev pub WritesLast : {W : Type 0} → (W → List ℕ → W → Type 0) → W → List ℕ → W → Type 0
-WritesLast took w words v = (text : List ℕ) × WritesInCalls took w (text ++ words) v
+abbrev pub paper_text : List ℕ
+paper_text = codes "<rect width=\"" ++ (decimal 1000 ++ (codes "\" height=\"" ++ (decimal 480 ++ codes "\" fill=\"#fff\"/>\n")))
 
--- what the rule of the place comes to, and a picture that says it
-pub record IsPicture {W Reading Margin : Type 0} (took : W → List ℕ → W → Type 0) (sm : ScaleModel Reading Margin) (unit : Unit) (place : RulePlace) (rm : RecordModel Reading) (w v : W) : Type 0 where
+abbrev pub close_text : List ℕ
+close_text = codes "</svg>\n"
+
+-- of the first n answers of the rule of a place, and what it comes to
+abbrev pub picture_text : Unit → RulePlace → (ℕ → Answered) → ℕ → Outcome → List ℕ
+picture_text unit place answers n o = open_text ++ (paper_text ++ (names_text unit place ++ (last_text unit answers n o ++ close_text)))
+
+-- what the rule of the place comes to, and the picture that says it
+pub record IsPicture {Reading Margin : Type 0} (sm : ScaleModel Reading Margin) (unit : Unit) (place : RulePlace) (rm : RecordModel Reading) (text : List ℕ) : Type 0 where
   pub comes_to : Outcome
   pub is : IsOutcome (place_answers sm place rm) (horizon (place_means place).0) rm.polls comes_to
-  pub headed : W
-  pub drawn : W
-  pub heading : WritesLast took w (names_text unit place) headed
-  pub last : WritesInCalls took headed (last_text unit (place_answers sm place rm) (place_polls place rm) comes_to) drawn
-  pub end : WritesInCalls took drawn (codes "</svg>\n") v
+  pub text_is : text ≡ picture_text unit place (place_answers sm place rm) (place_polls place rm) comes_to

@@ -1,11 +1,11 @@
 // One rule's margins as a picture.
-ghost use Rattle.std.specs.Prelude.{◌≡◌, OnOk, length};
+ghost use Rattle.std.specs.Prelude.{◌≡◌, ℕ, List, OnOk, length};
 ghost use Rattle.std.specs.Fmt.{WritesInCalls};
 ghost use Rattle.desk.specs.Amounts.{amount_text};
 ghost use Rattle.desk.specs.Bands.{band_text, highest_text, lowest_text, pen_text, point_text};
 ghost use Rattle.desk.specs.Columns.{AreColumns};
 ghost use Rattle.desk.specs.Frames.{frame_over};
-ghost use Rattle.desk.specs.Pictures.{IsPicture, WritesLast, names_text, ringed_text, sketch_over, waiting_text};
+ghost use Rattle.desk.specs.Pictures.{IsPicture, names_text, ringed_text, sketch_over, waiting_text};
 ghost use Rattle.desk.specs.Rows.{place_fault};
 ghost use Rattle.desk.specs.Summaries.{Tallied};
 ghost use Rattle.desk.specs.Ticks.{level_text, levels_text, lines_text, ticks_text};
@@ -230,7 +230,7 @@ impl<'a, S: Measured + Copy, R: Record<Reading = S::Reading>> Soak<'a, S, R> {
 
     // The heading, and the names of the axes.
     fn write_names<W: fmt::Write>(&self, out: &mut W, place: &RulePlace) -> fmt::Result
-        ensures { OnOk result (WritesLast W.write_str_gives out.old (names_text S.told_in place.now) out.new) }
+        ensures { OnOk result (WritesInCalls W.write_str_gives out.old (names_text S.told_in place.now) out.new) }
     {
         let unit = self.scale.unit();
         let rule = place.rule_number;
@@ -279,7 +279,7 @@ impl<'a, S: Measured + Copy, R: Record<Reading = S::Reading>> Soak<'a, S, R> {
     ) -> Result<(), Trouble>
         ensures told { TellsFirst IsOutput (place_fault (S.model self.now.scale) place.now (R.Record.model self.now.«record».now)) result }
         ensures unwritten { OnRefused result (out.new ≡ out.old) }
-        ensures picture { OnOk result (IsPicture W.write_str_gives (S.model self.now.scale) S.told_in place.now (R.Record.model self.now.«record».now) out.old out.new) }
+        ensures picture { OnOk result ((text : List ℕ) × IsPicture (S.model self.now.scale) S.told_in place.now (R.Record.model self.now.«record».now) text × WritesInCalls W.write_str_gives out.old text out.new) }
     {
         let rule = place.rule();
         progress.begin(place.rule_number);

@@ -1,13 +1,15 @@
 use Rattle.std.specs.Fmt.{WritesInCalls}
 use Rattle.desk.specs.Columns.{each_of}
-use Rattle.std.proofs.Common.{rules, ◌≡◌, None, refl, sym, subst}
+use Rattle.std.proofs.Common.{rules, ◌≡◌, ◌++◌, None, refl, sym, subst}
 use Rattle.formulas.specs.Formula.{horizon}
 use Rattle.rules.specs.Places.{place_means}
 use Rattle.rules.specs.Rules.{zone, formula}
 use Rattle.desk.specs.Answers.{answers_of, polls_of}
-use Rattle.desk.specs.Pictures.{last_text, names_text}
+use Rattle.desk.specs.Pictures.{close_text, paper_text, last_text, names_text, open_text, picture_text}
+use Rattle.desk.specs.Rows.{place_answers, place_polls}
+use Rattle.std.proofs.Output.{writes_in_calls_append}
 use Rattle.desk.specs.Summaries.{IsOutcome}
-use Rattle.desk.proofs.PictureLaws.{nothing, then_writes, then_last, sketch_are, last_are, outcome_are}
+use Rattle.desk.proofs.PictureLaws.{sketch_are, last_are, outcome_are}
 use Rattle.desk.proofs.soaks.Soak.plot.Goals as goal
 use Rattle.desk.proofs.soaks.Soak.plot.Goals.{in-Answered+in_ok-write_sketch-in-Answered, in-Waiting+in_ok-write_waiting-in-Waiting}
 
@@ -20,9 +22,6 @@ returns-clause-picture g c =
     let rule = c.rule-rule.result in
     let means = place_means c.args.place.now in
     let heard = c.in_ok-follow.ensures.heard (record { tally = record { summary = None }; columns = c.over.result }) (refl, c.over.ensures.columns (answers_of sm rule rm)) in
-    let svg = then_writes took c.args.out.now c.args.out.now c.writeln.new.self _ (nothing took c.args.out.now) c.in_ok-writeln.ensures.writes in
-    let rect = then_writes took c.args.out.now c.writeln.new.self c.writeln-2.new.self _ svg c.in_ok-writeln-2.ensures.writes in
-    let names = c.in_ok-write_names.ensures in
     let answers = answers_of sm rule rm in
     let h = horizon (formula rule) in
     let polls = polls_of (formula rule) rm in
@@ -44,12 +43,22 @@ returns-clause-picture g c =
     ] in
     let zone_is : zone rule ≡ means.1 = search rules in
     let formula_is : formula rule ≡ means.0 = search rules in
-    record {
-      comes_to = c.outcome_of.result;
-      is = outcome_are sm rm rule means.1 means.0 c.outcome_of.result zone_is formula_is summed;
-      headed = c.write_names.new.out;
-      drawn = c.match-outcome_of.out;
-      heading = then_last took c.args.out.now c.writeln-2.new.self c.write_names.new.out (names_text unit c.args.place.now) rect names;
-      last = last_are took c.write_names.new.out c.match-outcome_of.out unit sm rm rule means.1 means.0 c.outcome_of.result zone_is formula_is drawn;
-      end = c.in_ok-writeln-3.ensures.writes;
-    }
+    let first = c.args.out.now in
+    let last = c.writeln-3.new.self in
+    let place = c.args.place.now in
+    let o = c.outcome_of.result in
+    let words = last_text unit (place_answers sm place rm) (place_polls place rm) o in
+    let names = names_text unit place in
+    let meant : WritesInCalls took c.write_names.new.out words c.match-outcome_of.out = last_are took c.write_names.new.out c.match-outcome_of.out unit sm rm rule means.1 means.0 o zone_is formula_is drawn in
+    let opened : WritesInCalls took first open_text c.writeln.new.self = c.in_ok-writeln.ensures.writes in
+    let paper : WritesInCalls took c.writeln.new.self paper_text c.writeln-2.new.self = c.in_ok-writeln-2.ensures.writes in
+    let closed : WritesInCalls took c.match-outcome_of.out close_text last = c.in_ok-writeln-3.ensures.writes in
+    let behind_names : WritesInCalls took c.write_names.new.out (words ++ close_text) last = writes_in_calls_append took c.write_names.new.out words c.match-outcome_of.out close_text last meant closed in
+    let behind_paper : WritesInCalls took c.writeln-2.new.self (names ++ (words ++ close_text)) last =
+    writes_in_calls_append took c.writeln-2.new.self names c.write_names.new.out (words ++ close_text) last c.in_ok-write_names.ensures behind_names in
+    let behind_open : WritesInCalls took c.writeln.new.self (paper_text ++ (names ++ (words ++ close_text))) last =
+    writes_in_calls_append took c.writeln.new.self paper_text c.writeln-2.new.self (names ++ (words ++ close_text)) last paper behind_paper in (
+      picture_text unit place (place_answers sm place rm) (place_polls place rm) o,
+      record { comes_to = o; is = outcome_are sm rm rule means.1 means.0 o zone_is formula_is summed; text_is = refl },
+      writes_in_calls_append took first open_text c.writeln.new.self (paper_text ++ (names ++ (words ++ close_text))) last opened behind_open,
+    )

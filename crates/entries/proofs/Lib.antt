@@ -2,5 +2,6 @@
 pub mod Bits
 pub mod Listing
 pub mod Adding
+pub mod Digits
 pub mod Decoding
 pub mod Walking

@@ -1,14 +1,14 @@
--- The heads of a set as a list: which are among them, and in what order. Assumes nothing.
-use Rattle.std.proofs.Common.{◌≡◌, ℕ, zero, suc, ◌/◌, ◌^◌, ◌<◌, ◌≤◌, Bool, true, false, cond, ◌&&◌, ◌||◌, eqb, ltb, List, [], ◌∷◌, ◌++◌, sym, refl, ap, ◌∙◌, subst, ap₂, ⊎_elim, arith}
+-- The heads of a set as a list: which are among them, in what order, and the first from one on. Assumes nothing.
+use Rattle.std.proofs.Common.{◌≡◌, ℕ, zero, suc, ◌/◌, ◌^◌, ◌<◌, ◌≤◌, Bool, true, false, cond, ◌&&◌, ◌||◌, eqb, ltb, List, [], ◌∷◌, ◌++◌, Some, None, sym, refl, ap, ◌∙◌, subst, ap₂, ⊎_elim, arith}
 use lib.Bits.{bit_and}
 use mathlib.Core.Bool.{or_assoc, or-false}
 use Rattle.std.proofs.ByRecursion.{All-push, All-weaker}
-use Rattle.std.proofs.lemmas.Bool.{cases_order, cases_lt, both_ways, eq-eqb, ne_eqb, eqb-true, lt-ltb, le-ltb, or_cases}
+use Rattle.std.proofs.lemmas.Bool.{cases_order, cases_lt, both_ways, eq-eqb, ne_eqb, eqb-true, le-leb, lt-leb, lt-ltb, le-ltb, or_cases, or_right, cond-true, cond-false}
 use Rattle.std.proofs.lemmas.Nat.Bits.{shr_and_one}
 use Rattle.std.proofs.lemmas.Bool.Decides.{nat_tests}
 use Rattle.std.specs.List.{AllByRecursion}
 use Rattle.formulas.specs.Formula.{among}
-use Rattle.entries.specs.Heads.{head_total, has, heads_below, heads, Rising}
+use Rattle.entries.specs.Heads.{head_total, has, heads_below, heads, first_from, Rising}
 use Rattle.entries.proofs.Bits.{beyond}
 
 pub among-append : (h : ℕ) (gs hs : List ℕ) → among h (gs ++ hs) ≡ (among h gs || among h hs)
@@ -99,3 +99,23 @@ rising_below z (suc n) = one_rising n (has z n) (heads_below z n) (all_below z n
 pub rising : (z : ℕ) → Rising (heads z)
 unfolding heads
 rising z = rising_below z head_total
+
+-- ---- the first from n on
+pub first_none : (n : ℕ) (gs : List ℕ) → ((h : ℕ) → among h gs ≡ true → h < n) → first_from n gs ≡ None
+first_none n [] f = refl
+first_none n (g ∷ gs) f =
+    let low : g < n = f g (rw (eq-eqb g g refl) refl) in
+    cond-false _ _ _ (lt-leb n g low) ∙ first_none n gs (λ h e. f h (or_right (eqb g h) (among h gs) e))
+
+pub first_is : (n g : ℕ) (gs : List ℕ) → Rising gs → among g gs ≡ true → n ≤ g → ((h : ℕ) → among h gs ≡ true → n ≤ h → g ≤ h) → first_from n gs ≡ Some g
+first_is n g [] r e le least = absurd (both_ways _ refl e)
+first_is n g (x ∷ gs) r e le least =
+    ⊎_elim
+    (λ (q : x < n).
+    let rest : among g gs ≡ true = ⊎_elim (λ f. absurd (omega (arith, eqb-true x g f))) (λ f. f) (or_cases (eqb x g) (among g gs) e) in
+    cond-false _ _ _ (lt-leb n x q) ∙ first_is n g gs r.1 rest le (λ h f. least h (or_right (eqb x h) (among h gs) f)))
+    (λ (q : n ≤ x).
+    let top : g ≤ x = least x (rw (eq-eqb x x refl) refl) q in
+    cond-true _ _ _ (le-leb n x q)
+    ∙ ap Some (⊎_elim (λ f. eqb-true x g f) (λ f. absurd (omega (arith, all_among (λ h. x < h) gs g r.0 f))) (or_cases (eqb x g) (among g gs) e)))
+    (cases_lt x n)

@@ -1,7 +1,8 @@
 -- A set of heads: the bits of a number, and its heads as a list in rising order. Assumes nothing.
 --     heads         the heads of a set, rising
 --     SameHeads    two lists have the same heads
-use Rattle.std.specs.Prelude.{◌≡◌, ℕ, zero, suc, ◌/◌, ◌%◌, ◌^◌, ◌<◌, ◌≤◌, Bool, cond, List, [], ◌∷◌, ◌++◌, length, ◌==◌, slice_index}
+--     first_from    the first of the heads at or after one
+use Rattle.std.specs.Prelude.{◌≡◌, ℕ, zero, suc, ◌/◌, ◌%◌, ◌^◌, ◌<◌, ◌≤◌, Bool, cond, List, [], ◌∷◌, ◌++◌, length, Some, None, Option, ◌==◌, nat_le, slice_index}
 use Rattle.std.specs.List.{AllByRecursion}
 use Rattle.formulas.specs.Formula.{among}
 
@@ -25,6 +26,11 @@ heads z = heads_below z head_total
 -- the same heads are in both lists
 abbrev pub SameHeads : List ℕ → List ℕ → Type 0
 SameHeads gs hs = (h : ℕ) → among h gs ≡ among h hs
+
+-- the first head at or after n
+abbrev pub first_from : ℕ → List ℕ → Option ℕ
+first_from n [] = None
+first_from n (g ∷ gs) = cond (nat_le n g) (Some g) (first_from n gs)
 
 -- each head is below those after it
 abbrev pub Rising : List ℕ → Type 0

@@ -1,7 +1,7 @@
 // Sets of heads.
 ghost use Rattle.std.specs.Prelude.{◌≡◌, ◌^◌, ◌<◌, ◌≤◌, [], ◌∷◌, ◌++◌, length, MatchOption, bit_or};
 ghost use Rattle.formulas.specs.Formula.{among};
-ghost use Rattle.entries.specs.Heads.{head_total, heads as heads_of, SameHeads, SomeAbove};
+ghost use Rattle.entries.specs.Heads.{head_total, heads as heads_of, SameHeads, SomeAbove, first_from, Rising};
 
 // Heads are numbered from 0 to one below this.
 pub const HEADS: u8 = 64;
@@ -87,6 +87,19 @@ impl HeadSet {
         ensures { result ≡ length (heads_of self.bits) }
     {
         self.bits.count_ones() as usize
+    }
+
+    // The first head at or after one, so that all are met in rising order; none where no more is in the set.
+    #[tactic(auto, using(crate::proofs::Digits::next_is, crate::proofs::Digits::next_past, crate::proofs::Listing::rising))]
+    pub fn next(self, from: u8) -> Option<u8>
+        ensures value { result ≡ first_from from (heads_of self.bits) }
+        ensures rising { Rising (heads_of self.bits) }
+    {
+        if from >= HEADS {
+            return None;
+        }
+        let ahead = (self.bits >> from).trailing_zeros();
+        (ahead < u64::BITS).then_some(from + ahead as u8)
     }
 
     // Its lowest head and the set of the others; none where it has no head.

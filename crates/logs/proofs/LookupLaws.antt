@@ -1,5 +1,5 @@
 -- What holds of a head's latest entry. Assumes nothing.
-use Rattle.std.proofs.Common.{◌≡◌, ℕ, ◌+◌, ◌-◌, ◌<◌, ◌≤◌, Bool, true, false, cond, ◌&&◌, eqb, leb, List, [], ◌∷◌, ◌++◌, length, get_or, take, drop, find, reverse, Some, None, Option, sym, refl, ap, ◌∙◌, arith, take-append-drop}
+use Rattle.std.proofs.Common.{◌≡◌, ℕ, ◌+◌, ◌-◌, ◌<◌, ◌≤◌, Bool, true, false, cond, ◌&&◌, eqb, leb, List, [], ◌∷◌, ◌++◌, length, get_or, take, drop, find, reverse, Some, None, Option, is_some, sym, refl, ap, ◌∙◌, arith, take-append-drop}
 use Rattle.std.specs.Option.{option_or}
 use Rattle.std.specs.List.{AllByRecursion}
 use Rattle.std.proofs.lemmas.List.{get_or-drop, get_or-take, length-drop, length-take, take_more, reverse-append}
@@ -14,6 +14,15 @@ use Rattle.logs.specs.Lookup.{blank, Upto}
 or_none : (o : Option LogEntry) → option_or o None ≡ o
 or_none None = refl
 or_none (Some e) = refl
+
+-- the first of two, where there is one, and else the second
+pub found_near : (o p : Option LogEntry) → true ≡ is_some o → o ≡ option_or o p
+found_near None p e = absurd (cc)
+found_near (Some x) p e = refl
+
+pub not_near : (o p : Option LogEntry) → false ≡ is_some o → p ≡ option_or o p
+not_near None p e = refl
+not_near (Some x) p e = absurd (cc)
 
 or_or : (a b c : Option LogEntry) → option_or (option_or a b) c ≡ option_or a (option_or b c)
 or_or None b c = refl

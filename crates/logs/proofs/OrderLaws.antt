@@ -1,8 +1,8 @@
 -- What the check of a log's entries rests on. `bs` has the entries before one, the nearest first. Assumes nothing.
-use Rattle.std.proofs.Common.{◌≡◌, ℕ, zero, suc, ◌+◌, ◌<◌, ◌≤◌, Bool, true, false, cond, ◌&&◌, ◌||◌, eqb, ltb, leb, ◌⊎◌, List, [], ◌∷◌, reverse, length, get_or, take, drop, set, Some, None, Ok, Option, sym, refl, ap, ◌∙◌, inl, inr, arith}
-use Rattle.std.specs.Option.{option_or, option_eq}
+use Rattle.std.proofs.Common.{◌≡◌, ℕ, zero, suc, ◌+◌, ◌<◌, ◌≤◌, Bool, true, false, cond, eqb, ltb, leb, ◌⊎◌, List, [], ◌∷◌, reverse, length, get_or, take, drop, set, Some, None, Ok, Option, sym, refl, ap, ◌∙◌, inl, inr, arith}
+use Rattle.std.specs.Option.{option_or}
 use Rattle.std.proofs.lemmas.List.{take_more, reverse-append, at_drop_more, get_or-set_same, get_or-set_other}
-use Rattle.std.proofs.lemmas.Bool.{eqb-false, leb-false, ltb-false, cases_eq, eq-eqb, ne_eqb, cond-false, cond-true, cases_Bool}
+use Rattle.std.proofs.lemmas.Bool.{leb-false, ltb-false, cases_eq, eq-eqb, ne_eqb, cond-false, cond-true, cases_Bool}
 use Rattle.std.proofs.lemmas.Bool.Decides.{nat_tests}
 use Rattle.logs.specs.declared.entries.LogEntry.{LogEntry}
 use Rattle.logs.specs.declared.refusals.LogFault.{LogFault}
@@ -13,10 +13,10 @@ use Rattle.logs.specs.Log.{floor, seen, place_fault, order_fault, entry_fault, f
 use Rattle.logs.specs.Lookup.{blank, Rising}
 use Rattle.records.proofs.ModelLaws.{neither, no_fault, passes_by}
 
--- the poll of the head's latest entry
-abbrev pub recent : ℕ → List LogEntry → Option ℕ
-recent h [] = None
-recent h (b ∷ bs) = cond (eqb b.head h) (Some b.poll) (recent h bs)
+-- one more than the poll of the head's latest entry, 0 before its first
+abbrev pub stamp : ℕ → List LogEntry → ℕ
+stamp h [] = 0
+stamp h (b ∷ bs) = cond (eqb b.head h) (b.poll + 1) (stamp h bs)
 
 -- the polls never rise, going back
 abbrev pub Falling : List LogEntry → Type 0
@@ -29,28 +29,22 @@ unseen h t (b ∷ bs) f o =
     let r = unseen h t bs f.1 (omega (arith, f.0)) in
     grind (arith, nat_tests, r)
 
-or_idle : (a s : Bool) → (a ≡ false → s ≡ false) → (a || s) ≡ a
-or_idle true s idle = refl
-or_idle false s idle = idle refl
-
-either : (a s : Bool) (p t : ℕ) (r : Option ℕ) → s ≡ option_eq eqb r (Some t) → (eqb p t ≡ false → s ≡ false) → ((a && eqb p t) || s) ≡ option_eq eqb (cond a (Some p) r) (Some t)
-either true s p t r is idle = or_idle (eqb p t) s idle
-either false s p t r is idle = is
-
--- that poll tells whether the head has an entry of the latest poll
-seen_recent : (h t : ℕ) (bs : List LogEntry) → Falling bs → floor bs ≤ t → seen h t bs ≡ option_eq eqb (recent h bs) (Some t)
-seen_recent h t [] f o = refl
-seen_recent h t (b ∷ bs) f o =
-    either (eqb b.head h) (seen h t bs) b.poll t (recent h bs) (seen_recent h t bs f.1 (omega (arith, f.0)))
-    (λ ne. let off = eqb-false b.poll t ne in unseen h t bs f.1 (omega (arith, f.0)))
+-- the stamp tells whether the head has an entry of the latest poll
+seen_stamp : (h t : ℕ) (bs : List LogEntry) → Falling bs → floor bs ≤ t → seen h t bs ≡ eqb (stamp h bs) (t + 1)
+seen_stamp h t [] f o = grind (arith, nat_tests)
+seen_stamp h t (b ∷ bs) f o =
+    let r = seen_stamp h t bs f.1 (omega (arith, f.0)) in
+    let u : floor bs < t → seen h t bs ≡ false = unseen h t bs f.1 in
+    let le = f.0 in
+    grind (arith, nat_tests, r, u, le)
 
 -- so it gives the entry's own fault
-recent_tells : (i : ℕ) (twice : Bool) (bs : List LogEntry) (e : LogEntry) → Falling bs → twice ≡ option_eq eqb (recent e.head bs) (Some e.poll) → order_fault i (floor bs) twice e ≡ order_fault i (floor bs) (seen e.head e.poll bs) e
-recent_tells i twice bs e f is = by (cases_Bool (ltb e.poll (floor bs)))
+stamp_tells : (i : ℕ) (twice : Bool) (bs : List LogEntry) (e : LogEntry) → Falling bs → twice ≡ eqb (stamp e.head bs) (e.poll + 1) → order_fault i (floor bs) twice e ≡ order_fault i (floor bs) (seen e.head e.poll bs) e
+stamp_tells i twice bs e f is = by (cases_Bool (ltb e.poll (floor bs)))
   where
     by : (ltb e.poll (floor bs) ≡ true) ⊎ (ltb e.poll (floor bs) ≡ false) → order_fault i (floor bs) twice e ≡ order_fault i (floor bs) (seen e.head e.poll bs) e
     by (inl falls) = cond-true _ _ _ falls ∙ sym (cond-true _ _ _ falls)
-    by (inr holds) = ap (λ b. order_fault i (floor bs) b e) (is ∙ sym (seen_recent e.head e.poll bs f (ltb-false e.poll (floor bs) holds)))
+    by (inr holds) = ap (λ b. order_fault i (floor bs) b e) (is ∙ sym (seen_stamp e.head e.poll bs f (ltb-false e.poll (floor bs) holds)))
 
 pub before_more : (es : List LogEntry) (i : ℕ) → i < length es → reverse (take (i + 1) es) ≡ get_or es i blank ∷ reverse (take i es)
 before_more es i lt = ap reverse (take_more es i blank lt) ∙ reverse-append (take i es) (get_or es i blank ∷ [])
@@ -73,23 +67,23 @@ module _ (heads polls : ℕ) (es : List LogEntry) (i : ℕ) (lt : i < length es)
 
 -- an entry's fault by its parts
 module _ (heads polls i : ℕ) (bs : List LogEntry) (e : LogEntry) where
-  pub by_order : (twice : Bool) (before : ℕ) → before ≡ floor bs → Falling bs → twice ≡ option_eq eqb (recent e.head bs) (Some e.poll) → Ok tt ≡ checked (place_fault heads polls i e) → entry_fault heads polls i bs e ≡ order_fault i before twice e
+  pub by_order : (twice : Bool) (before : ℕ) → before ≡ floor bs → Falling bs → twice ≡ eqb (stamp e.head bs) (e.poll + 1) → Ok tt ≡ checked (place_fault heads polls i e) → entry_fault heads polls i bs e ≡ order_fault i before twice e
   by_order twice before at f is ok =
       ap (λ o. option_or o (order_fault i (floor bs) (seen e.head e.poll bs) e)) (no_fault _ ok)
-      ∙ sym (recent_tells i twice bs e f is)
+      ∙ sym (stamp_tells i twice bs e f is)
       ∙ ap (λ n. order_fault i n twice e) (sym at)
 
--- the polls of the heads' latest entries after one entry more
-pub recent_more : (ps : List (Option ℕ)) (bs : List LogEntry) (e : LogEntry) → length ps ≡ most_heads → e.head < most_heads → ((h : ℕ) → h < most_heads → get_or ps h None ≡ recent h bs) → (h : ℕ) → h < most_heads → get_or (set ps e.head (Some e.poll)) h None ≡ recent h (e ∷ bs)
-recent_more ps bs e len lt all h o = by (cases_eq h e.head)
+-- the stamps after one entry more
+pub stamped : (ss : List ℕ) (bs : List LogEntry) (e : LogEntry) → length ss ≡ most_heads → e.head < most_heads → ((h : ℕ) → h < most_heads → get_or ss h 0 ≡ stamp h bs) → (h : ℕ) → h < most_heads → get_or (set ss e.head (e.poll + 1)) h 0 ≡ stamp h (e ∷ bs)
+stamped ss bs e len lt all h o = by (cases_eq h e.head)
   where
-    by : (h ≡ e.head) ⊎ (h ≡ e.head → ⊥) → get_or (set ps e.head (Some e.poll)) h None ≡ recent h (e ∷ bs)
+    by : (h ≡ e.head) ⊎ (h ≡ e.head → ⊥) → get_or (set ss e.head (e.poll + 1)) h 0 ≡ stamp h (e ∷ bs)
     by (inl is) =
-        ap (λ k. get_or (set ps e.head (Some e.poll)) k None) is
-        ∙ get_or-set_same ps e.head (Some e.poll) None (omega arith)
+        ap (λ k. get_or (set ss e.head (e.poll + 1)) k 0) is
+        ∙ get_or-set_same ss e.head (e.poll + 1) 0 (omega arith)
         ∙ sym (cond-true _ _ _ (eq-eqb _ _ (sym is)))
     by (inr ne) =
-        get_or-set_other ps e.head h (Some e.poll) None ne
+        get_or-set_other ss e.head h (e.poll + 1) 0 ne
         ∙ all h o
         ∙ sym (cond-false _ _ _ (ne_eqb _ _ (λ q. ne (sym q))))
 

@@ -44,14 +44,16 @@ fn check_order(entry: usize, before: u32, twice: bool, e: LogEntry) -> Result<()
 pub(crate) fn check_entries(size: Size, entries: &[LogEntry]) -> Result<(), LogFault>
     ensures { result ≡ checked (first_fault size.heads size.polls 0 [] entries.now) }
 {
-    // the poll of each head's latest entry
-    let mut polls = [None; HEADS as usize];
+    // one more than the poll of each head's latest entry, 0 before its first: an option would take twice the room, and more
+    // time than all else here
+    let mut stamps = [0u32; HEADS as usize];
     let mut before = 0;
     for (entry, e) in entries.iter().enumerate() {
         check_place(size, entry, *e)?;
-        let twice = polls[e.head as usize] == Some(e.poll);
-        check_order(entry, before, twice, *e)?;
-        polls[e.head as usize] = Some(e.poll);
+        let head = e.head as usize;
+        let stamp = e.poll + 1;
+        check_order(entry, before, stamps[head] == stamp, *e)?;
+        stamps[head] = stamp;
         before = e.poll;
     }
     Ok(())

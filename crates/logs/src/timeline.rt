@@ -95,7 +95,11 @@ impl<'a> Timeline<'a> {
             return last_of(head, &self.entries[..end]);
         };
         let row = end / STRIDE;
-        let mark = marks[row * self.size.heads as usize + head as usize];
-        last_of(head, &self.entries[row * STRIDE..end]).or(self.marked(mark))
+        let near = last_of(head, &self.entries[row * STRIDE..end]);
+        // The mark and its entry lie anywhere in memory, so they are read only where the walk finds nothing.
+        if near.is_some() {
+            return near;
+        }
+        self.marked(marks[row * self.size.heads as usize + head as usize])
     }
 }

@@ -71,7 +71,8 @@ impl Rule {
         ensures exactly { Assembled (heads_of zone.bits) entries.now }
     {
         let draft = Draft::new(entries, zone)?;
-        let lines = draft.walk()?;
+        let mut lines = Lines::empty();
+        draft.walk(&mut lines)?;
         Ok(draft.rule(lines))
     }
 }

@@ -8,6 +8,10 @@ use scales::Test;
 // The operation of an entry, with the entries at which the formulas that it takes end.
 #[derive(Clone, Copy)]
 pub enum Node {
+    // The complement of one formula. It stands first, so that a blank line is nothing but zeros and 24 of them are quickly laid.
+    Not {
+        of: usize,
+    },
     // The test of one head against a limit.
     HeadTest {
         head: u8,
@@ -17,10 +21,6 @@ pub enum Node {
     ZoneTest {
         k: u8,
         test: Test,
-    },
-    // The complement of one formula.
-    Not {
-        of: usize,
     },
     // The higher of two.
     Either {

@@ -80,17 +80,18 @@ impl Lines {
 }
 
 impl Draft<'_> {
-    // The line of each entry, or the first fault.
-    pub(crate) fn walk(&self) -> Result<Lines, RuleFault>
+    // Writes the line of each entry, or tells the first fault. The lines are the caller's, since it takes longer to hand so many
+    // on than to find them.
+    pub(crate) fn walk(&self, lines: &mut Lines) -> Result<(), RuleFault>
+        requires { lines.old.count ≡ 0 }
         ensures { MatchResult result
-            (λ l. (listed l ≡ self.now.entries.now) × ((st : List Formula) × (stack (heads self.now.zone.bits) self.now.entries.now (length self.now.entries.now) ≡ Ok st)) × Told (heads self.now.zone.bits) self.now.entries.now l.rows (length self.now.entries.now))
+            (λ done. (listed lines.new ≡ self.now.entries.now) × ((st : List Formula) × (stack (heads self.now.zone.bits) self.now.entries.now (length self.now.entries.now) ≡ Ok st)) × Told (heads self.now.zone.bits) self.now.entries.now lines.new.rows (length self.now.entries.now))
             (λ f. stack (heads self.now.zone.bits) self.now.entries.now (length self.now.entries.now) ≡ Err f) }
     {
-        let mut lines = Lines::empty();
         for entry in self.entries {
             let line = lines.next_line(*entry, self)?;
             lines.push(line);
         }
-        Ok(lines)
+        Ok(())
     }
 }

@@ -1,7 +1,7 @@
 -- What putting in and taking out leave, from the place and the shift. Assumes nothing.
-use Rattle.std.proofs.Common.{◌≡◌, ℕ, ◌+◌, ◌-◌, ◌<◌, ◌≤◌, Bool, true, false, cond, not, ◌&&◌, List, ◌++◌, map, length, take, drop, ℤ, Some, None, MatchOption, option_map, slice_get, sym, refl, ap, ◌∙◌, append_assoc, arith}
+use Rattle.std.proofs.Common.{◌≡◌, ℕ, ◌+◌, ◌-◌, ◌<◌, ◌≤◌, Bool, true, false, cond, not, ◌&&◌, List, ◌++◌, map, length, take, drop, ℤ, Some, None, MatchOption, option_map, slice_get, sym, refl, ap, ◌∙◌, append_assoc, take-append-drop, arith}
 use Rattle.std.specs.List.{insert, remove}
-use Rattle.std.proofs.lemmas.List.{length-append, length-drop, length-take, length-take-le, take_at, drop_at}
+use Rattle.std.proofs.lemmas.List.{length-append, length-drop, length-take-le, take_at, drop_at, drop-append-le}
 use Rattle.std.proofs.lemmas.List.Edits.{length-insert, length-remove}
 use Rattle.std.proofs.lemmas.Bool.{both_ways, lt-ltb, ltb-true}
 use Rattle.std.specs.Bool.{then_some}
@@ -19,6 +19,15 @@ use Rattle.runs.proofs.Margins.{map_inserted, map_removed, found_within}
 -- the first n cells give way to a front as long
 pub length_front : {X : Type 0} (front xs : List X) (n : ℕ) → length front ≡ n → n ≤ length xs → length (front ++ drop n xs) ≡ length xs
 length_front front xs n e h = omega (arith, length-append front (drop n xs), length-drop n xs)
+
+-- the last of the first n cells, and those behind
+left_over : {X : Type 0} (xs : List X) (n : ℕ) → n ≤ length xs → 0 < n → drop (length (take n xs) - 1) (take n xs) ++ drop n xs ≡ drop (n - 1) xs
+left_over xs n h k =
+    let few = length-take-le n xs h in
+    let e : length (take n xs) - 1 ≡ n - 1 = omega arith in
+    ap (λ i. drop i (take n xs) ++ drop n xs) e
+    ∙ sym (drop-append-le (n - 1) (take n xs) (drop n xs) (omega arith))
+    ∙ ap (drop (n - 1)) (take-append-drop n xs)
 
 not_eq : (s t : Bool) → (not s && not t) ≡ is_eq (cond s Less (cond t Greater Equal))
 not_eq true t = refl
@@ -69,22 +78,26 @@ module _ {M : Type 0} (whole : M → ℤ) (xs : List M) (used : ℕ) (m : M) whe
     keeps = λ o. taken_no (whole m) (wholes whole used xs) (wholes whole (used - 0) xs) o.falls (none o.falls) (let z : used - 0 ≡ used = omega arith in ap (λ n. wholes whole n xs) z);
   }
 
-  pub take_done : (front : List M) (at : ℕ) → used ≤ length xs → FoundAt whole (take used xs) m at → front ≡ remove (take used xs) at ++ take 1 (drop at (take used xs))
+  pub take_done : (front : List M) (at : ℕ) → used ≤ length xs → FoundAt whole (take used xs) m at → front ≡ remove (take used xs) at ++ drop (length (take used xs) - 1) (take used xs)
       → TakenOut whole used xs (front ++ drop used xs) m true
   take_done front at h found e =
       let f = take used xs in
-      let out = take 1 (drop at f) in
+      let out = drop (length f - 1) f in
       let few = length-take-le used xs h in
       let inside = found_within whole f m at found in
       let less : length (remove f at) ≡ used - 1 = omega (arith, length-remove f at inside) in
-      let long : length front ≡ used = ap length e ∙ omega (arith, length-append (remove f at) out, length-take 1 (drop at f), length-drop at f) in
+      let long : length front ≡ used = ap length e ∙ omega (arith, length-append (remove f at) out, length-drop (length f - 1) f) in
       let kept : take (used - 1) (front ++ drop used xs) ≡ remove f at =
       ap (λ l. take (used - 1) (l ++ drop used xs)) e ∙ ap (take (used - 1)) (append_assoc (remove f at) out (drop used xs)) ∙ take_at (remove f at) (out ++ drop used xs) (used - 1) less in
       record {
         some = omega arith;
         long = length_front front xs used long h;
         refused = λ q. absurd (both_ways true q refl);
-        behind = drop_at front (drop used xs) used long;
+        behind =
+            ap (λ l. drop (used - 1) (l ++ drop used xs)) e
+            ∙ ap (drop (used - 1)) (append_assoc (remove f at) out (drop used xs))
+            ∙ drop_at (remove f at) (out ++ drop used xs) (used - 1) less
+            ∙ left_over xs used h (omega arith);
         keeps = λ o.
             let a = found.place o.falls in
             taken_yes (whole m) (wholes whole used xs) (wholes whole (used - 1) (front ++ drop used xs)) o.falls (ap (slice_get (wholes whole used xs)) (sym a) ∙ found.same)

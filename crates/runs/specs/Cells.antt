@@ -20,12 +20,13 @@ pub record PutIn {M : Type 0} (whole : M → ℤ) (used : ℕ) (before after : L
   pub behind : drop (used + 1) after ≡ drop (used + 1) before
   pub keeps : put ≡ true → InOrder whole used before → Added (whole m) (wholes whole used before) (wholes whole (used + 1) after)
 
--- one margin of the whole number of m was to be taken out of the first `used` of the cells; where none was found nothing changes
+-- one margin of the whole number of m was to be taken out of the first `used` of the cells; where none was found nothing
+-- changes, and the cells behind those still kept never do
 pub record TakenOut {M : Type 0} (whole : M → ℤ) (used : ℕ) (before after : List M) (m : M) (found : Bool) : Type 0 where
   pub some : hit found ≤ used
   pub long : length after ≡ length before
   pub refused : found ≡ false → after ≡ before
-  pub behind : drop used after ≡ drop used before
+  pub behind : drop (used - hit found) after ≡ drop (used - hit found) before
   pub keeps : InOrder whole used before → Taken (whole m) found (wholes whole used before) (wholes whole (used - hit found) after)
 
 -- a margin of the whole number of m stands at this place, behind those above it

@@ -1,5 +1,5 @@
 // Places in a stretch of margins that lies highest first, and the shifts that open and close one.
-ghost use Rattle.std.specs.Prelude.{◌≡◌, ◌+◌, ◌-◌, ◌*◌, ◌^◌, ◌<◌, ◌≤◌, ◌++◌, map, length, take, drop, if◌then◌else◌, MatchOption};
+ghost use Rattle.std.specs.Prelude.{◌≡◌, ◌+◌, ◌-◌, ◌*◌, ◌^◌, ◌<◌, ◌≤◌, ◌++◌, map, length, take, drop, slice_set, if◌then◌else◌, MatchOption};
 ghost use Rattle.std.specs.List.{insert, remove};
 ghost use Rattle.runs.specs.Highest.{above};
 ghost use Rattle.runs.specs.Order.{Descending};
@@ -9,6 +9,12 @@ use scales::{Scale, compare};
 
 // The levels that are laid out: all of a search in fewer than 8,192 margins, and so all of a window's, which has at most 1,440.
 const LEVELS: u32 = 12;
+
+// Below so many levels a loop over just these is quicker than to pass over most of those that are laid out.
+const FEW: u32 = 5;
+
+// Fewer cells than these move one by one, since a rotation takes longer to begin.
+const SHORT: usize = 16;
 
 // 2 to the level where hit, else 0. A shift, and no product or choice, since the compiler makes those a branch.
 fn jump(hit: bool, level: u32) -> usize
@@ -59,8 +65,12 @@ pub(crate) fn place<S: Scale>(scale: &S, margins: &[S::Margin], m: S::Margin) ->
     }
     let top = margins.len().ilog2();
     let mut base = start(scale, margins, jump(true, top), m);
-    for level in (LEVELS..top).rev() {
+    let laid = if top < FEW { 0 } else { LEVELS };
+    for level in (laid..top).rev() {
         base = halve(scale, margins, m, base, level);
+    }
+    if laid == 0 {
+        return base;
     }
     for level in (0..LEVELS).rev() {
         if level < top {
@@ -70,21 +80,42 @@ pub(crate) fn place<S: Scale>(scale: &S, margins: &[S::Margin], m: S::Margin) ->
     base
 }
 
+// Moves the cells from a place on up by one; the last one goes, and the place is free.
+fn raise<M: Copy>(cells: &mut [M], at: usize)
+    requires { at < length cells.old }
+    ensures { (m : M) → slice_set cells.new at m ≡ insert (take (length cells.old - 1) cells.old) at m }
+{
+    let last = cells.len() - 1;
+    if last - at < SHORT {
+        cells.copy_within(at..last, at + 1);
+    } else {
+        cells[at..].rotate_right(1);
+    }
+}
+
 // Puts m at a place, and moves the cells from there on up by one; the last one goes.
 pub(crate) fn insert_at<M: Copy>(cells: &mut [M], at: usize, m: M)
     requires { at < length cells.old }
     ensures { cells.new ≡ insert (take (length cells.old - 1) cells.old) at m }
 {
-    cells[at..].rotate_right(1);
+    raise(cells, at);
     cells[at] = m;
 }
 
-// Moves the cells behind a place down by one, and what stood there to the end.
+// Takes the cell at a place out and moves those behind it down by one. The last cell stays as it is: what a run no longer
+// keeps is not its to change.
 pub(crate) fn remove_at<M: Copy>(cells: &mut [M], at: usize)
     requires { at < length cells.old }
-    ensures { cells.new ≡ remove cells.old at ++ take 1 (drop at cells.old) }
+    ensures { cells.new ≡ remove cells.old at ++ drop (length cells.old - 1) cells.old }
 {
+    let last = cells.len() - 1;
+    if last - at < SHORT {
+        cells.copy_within(at + 1.., at);
+        return;
+    }
+    let stays = cells[last];
     cells[at..].rotate_left(1);
+    cells[last] = stays;
 }
 
 // The place of a margin of m's whole number; none where none is to be taken out.

@@ -15,7 +15,7 @@ pub(crate) fn clip(whole: i32, most: u8) -> i32
 }
 
 // A whole number from -MOST to MOST.
-#[derive(Clone, Copy, PartialEq, Eq, PartialOrd, Ord, Debug)]
+#[derive(Clone, Copy, PartialEq, Eq, PartialOrd, Ord)]
 pub struct Bounded<const MOST: u32> {
     pub(crate) value: i32,
     ghost near: { unsigned_abs value ≤ MOST },
@@ -39,6 +39,18 @@ impl<const MOST: u32> Neg for Bounded<MOST> {
 
     fn neg(self) -> Bounded<MOST> {
         Bounded { value: -self.value }
+    }
+}
+
+// By hand, so that each number goes by its own name: a derived one would call a limit and a margin the same.
+impl<const MOST: u32> fmt::Debug for Bounded<MOST> {
+    fn fmt<W: fmt::Write>(&self, f: &mut fmt::Formatter<W>) -> fmt::Result {
+        let (name, field) = match MOST {
+            1_048_576 => ("Limit", "steps"),
+            9 => ("PanelMargin", "value"),
+            _ => ("CountMargin", "value"),
+        };
+        f.debug_struct(name).field(field, &self.value).finish()
     }
 }
 

@@ -5,6 +5,7 @@ use crate::obscuration::Obscuration;
 use crate::panel::Panel;
 use crate::scale::Scale;
 use crate::verdict::{Verdict, VerdictMargin};
+use std::num::f32_to_bits_with_nan;
 
 #[test]
 fn counts(rt: HostRuntime) {
@@ -39,6 +40,18 @@ fn obscuration(rt: HostRuntime) {
         let answer = Obscuration.test(reading, Test { sense, limit });
         assert_eq!(rt; answer.map(|m| m.value()), margin);
     }
+}
+
+// A zero's sign is the reading's.
+#[test]
+fn negative_zero(rt: HostRuntime) {
+    let limit = Limit::new(0).unwrap();
+    let sense = Sense::AtLeast;
+    let answer = Obscuration.test(-0.0, Test { sense, limit });
+    assert_eq!(rt;
+        answer.map(|m| f32_to_bits_with_nan(m.value())),
+        Some(0x8000_0000)
+    );
 }
 
 #[test]

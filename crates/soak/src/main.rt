@@ -34,7 +34,7 @@ fn run(rt: &HostRuntime) -> Result<(), Failure> {
 fn main(rt: HostRuntime) -> Result<(), Failure> {
     let result = run(&rt);
     if let Err(failure) = &result {
-        let _ = eprintln!(rt; "{failure}");
+        let _ = eprintln!(rt; "soak: {failure}");
     }
     result
 }

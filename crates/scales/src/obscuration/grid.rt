@@ -1,7 +1,7 @@
 // Floats by their whole number of 256ths. Each float operation stands alone here, with the fact that it is exact.
-ghost use Rattle.std.specs.Prelude.{◌≡◌, ◌≤◌, T, ◌-ℤ◌, neg_ℤ, int_lt, nat_le, unsigned_abs};
+ghost use Rattle.std.specs.Prelude.{◌≡◌, ◌≤◌, T, ◌-ℤ◌, neg_ℤ, pos, int_lt, nat_le, unsigned_abs};
 ghost use Rattle.std.specs.Float.Ieee.{eq};
-ghost use Rattle.std.specs.Option.{option_map};
+ghost use Rattle.std.specs.Option.{option_map, ForSome};
 ghost use Rattle.scales.specs.Grid.{on_grid, grid_whole, grid_steps};
 
 use crate::limit::Limit;
@@ -56,17 +56,21 @@ impl Lawful {
         }
     }
 
-    // A reading that has steps; none where they are no whole number or out of range. The way there and back tells.
-    #[tactic(auto, using(crate::proofs::GridReadings::no_steps, crate::proofs::GridReadings::has_steps))]
+    // A reading that has steps; none where they are no whole number or out of range. The way there and back tells. The reading
+    // stands as it is, and is not made anew from its steps, which would take a zero's sign.
+    #[tactic(auto, using(crate::proofs::GridReadings::no_steps, crate::proofs::GridReadings::other_float, crate::proofs::GridReadings::same_on, crate::proofs::GridReadings::on_steps))]
     pub(super) fn of(reading: f32) -> Option<Lawful>
-        ensures { option_map (λ r. grid_whole r.value) result ≡ grid_steps 1048576 reading }
+        ensures steps { option_map (λ r. grid_whole r.value) result ≡ grid_steps 1048576 reading }
+        ensures itself { ForSome result (λ r. r.value ≡ reading) }
     {
         let steps = to_steps(reading);
         if !in_range(steps) {
             return None;
         }
-        let lawful = Lawful::from_steps(steps);
-        is_same(lawful.value, reading).then_some(lawful)
+        if !is_same(Lawful::from_steps(steps).value, reading) {
+            return None;
+        }
+        Some(Lawful { value: reading })
     }
 
     // The float difference, which is exact.
@@ -98,6 +102,14 @@ impl<const MOST: u32> OnGrid<MOST> {
 }
 
 impl OnGrid<2_097_152> {
+    // Neither above nor below.
+    #[tactic(auto, unfolding(crate::specs::Grid::on_grid, crate::specs::Grid::grid_whole))]
+    pub(super) fn nought() -> OnGrid<2_097_152>
+        ensures { grid_whole result.value ≡ pos 0 }
+    {
+        OnGrid { value: 0.0 }
+    }
+
     // How many steps it is.
     pub(super) fn steps(self) -> i32
         ensures { result ≡ grid_whole self.value }

@@ -4,7 +4,7 @@ ghost use Rattle.scales.specs.Obscuration.{obscuration};
 
 use crate::bounded::clip;
 use crate::limit::{Sense, Test};
-use crate::obscuration::grid::Lawful;
+use crate::obscuration::grid::{Lawful, OnGrid};
 use crate::obscuration::{Obscuration, ObscurationMargin};
 use crate::scale::Scale;
 
@@ -33,7 +33,7 @@ impl Scale for Obscuration {
     }
 
     fn holds(&self, margin: ObscurationMargin) -> bool {
-        0 <= margin.steps()
+        !margin.is_below(OnGrid::nought())
     }
 
     fn clip(&self, margin: ObscurationMargin, most: u8) -> i32 {

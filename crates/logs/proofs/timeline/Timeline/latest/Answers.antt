@@ -1,6 +1,6 @@
 -- The walk ends at the head's latest entry, or at the mark that names it. Assumes nothing.
-use Rattle.std.proofs.Common.{sym, ap, ◌∙◌, arith}
-use Rattle.std.specs.Option.{option_or}
+use Rattle.std.proofs.Common.{sym, ◌∙◌, arith}
+use Rattle.logs.proofs.LookupLaws.{found_near, not_near}
 use Rattle.logs.proofs.LookupLaws.{latest_walk}
 use Rattle.logs.proofs.MarkLaws.{mark_below, latest_or}
 use Rattle.logs.proofs.timeline.Timeline.latest.Goals as goal
@@ -14,8 +14,15 @@ marked-requires c =
     let u = c.count_upto-end.ensures in
     omega (arith, mark_below t.size.heads t.entries.now _ (t.indexed c.in-Some.marks c.in-Some.is) c.args.head c.args.poll c.count_upto-end.result u c.requires, u.within)
 
+pub returns-then-is_some : goal.returns-then-is_some
+returns-then-is_some c =
+    let t = c.args.self.now in
+    found_near _ _ (sym c.if-is_some.true ∙ c.is_some.ensures)
+    ∙ latest_or t.size.heads t.entries.now _ (t.indexed c.in-Some.marks c.in-Some.is) c.args.head c.args.poll c.count_upto-end.result c.count_upto-end.ensures c.requires _ c.last_of-near.ensures
+
 pub returns : goal.returns
 returns c =
     let t = c.args.self.now in
-    c.or.ensures ∙ ap (option_or c.last_of-2.result) c.marked.ensures
-    ∙ latest_or t.size.heads t.entries.now _ (t.indexed c.in-Some.marks c.in-Some.is) c.args.head c.args.poll c.count_upto-end.result c.count_upto-end.ensures c.requires c.last_of-2.result c.last_of-2.ensures
+    c.marked.ensures
+    ∙ not_near _ _ (sym c.if-is_some.false ∙ c.is_some.ensures)
+    ∙ latest_or t.size.heads t.entries.now _ (t.indexed c.in-Some.marks c.in-Some.is) c.args.head c.args.poll c.count_upto-end.result c.count_upto-end.ensures c.requires c.last_of-near.result c.last_of-near.ensures

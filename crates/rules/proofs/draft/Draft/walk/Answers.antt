@@ -5,7 +5,7 @@ use Rattle.rules.proofs.Walks.{begins, more, fits, stops, stays}
 use Rattle.rules.proofs.draft.Draft.walk.Goals as goal
 
 pub loop-entry-init : goal.loop-entry-init
-loop-entry-init c = (begins _ _ _ c.empty-lines.ensures, c.empty-lines.ensures)
+loop-entry-init c = (begins _ _ _ c.requires, c.requires)
 
 pub returns-in_err-line : goal.returns-in_err-line
 returns-in_err-line c =

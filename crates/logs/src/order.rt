@@ -44,8 +44,7 @@ fn check_order(entry: usize, before: u32, twice: bool, e: LogEntry) -> Result<()
 pub(crate) fn check_entries(size: Size, entries: &[LogEntry]) -> Result<(), LogFault>
     ensures { result ≡ checked (first_fault size.heads size.polls 0 [] entries.now) }
 {
-    // one more than the poll of each head's latest entry, 0 before its first: an option would take twice the room, and more
-    // time than all else here
+    // one more than the poll of each head's latest entry, 0 before its first: an option would take twice the room
     let mut stamps = [0u32; HEADS as usize];
     let mut before = 0;
     for (entry, e) in entries.iter().enumerate() {
